@@ -1,0 +1,4 @@
+// The formal model.
+pub fn zero() -> u8 {
+    0
+}

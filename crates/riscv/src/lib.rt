@@ -1,0 +1,2 @@
+// RISC-V instructions and their words.
+pub mod instruction;
