@@ -1,0 +1,4 @@
+pub mod Frame
+pub mod Expressions
+pub mod Commands
+pub mod Functions

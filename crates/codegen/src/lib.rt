@@ -1,0 +1,1 @@
+// The code of a program: from its bytes to words of the machine.
