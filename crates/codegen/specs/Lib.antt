@@ -2,3 +2,4 @@ pub mod Frame
 pub mod Expressions
 pub mod Commands
 pub mod Functions
+pub mod Program
