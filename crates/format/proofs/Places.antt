@@ -1,5 +1,6 @@
 -- Where a text ceases to be the beginning of a program.
 use mathlib.Core.Path.{_≡_, refl, ap, _∙_, sym, subst}
+use mathlib.Core.Bool.{true}
 use mathlib.Core.Logic.{_⊎_, inl, inr}
 use mathlib.Core.List.{List, [], _∷_, _++_}
 use Prim.Native.Nat.{ℕ, zero, suc, _≤_, _<_, _-_, _+_, _*_}
@@ -9,9 +10,10 @@ use Rattle.std.specs.declared.option.Option.{Option}
 use Rattle.std.specs.declared.option.Option.the-variants.{Some, None}
 use Rattle.std.proofs.shelf.Lists.{take-append-drop}
 use Rattle.model.specs.Source.{Expr, word, Cmds, none, Program}
-use Rattle.model.specs.Promise.{Text, program, garbled}
-use Rattle.format.specs.Format.{Part, number, expr, exprs, vars, cmds, functions, Of, Makes, Rule, joined, rule, by-rule, parse, read, bytes, Begins, Ceases}
-use Rattle.format.proofs.Back.{Comes, reads-n, reads-e, reads-es, reads-v, reads-cs, reads-p}
+use Rattle.model.specs.Promise.{Text, program, garbled, all-below}
+use Rattle.format.specs.Format.{Part, number, expr, exprs, vars, cmds, functions, Of, Makes, Rule, joined, rule, by-rule, parse, read, bytes-n, bytes-f, bytes-of, bytes, Place-is-right}
+use Rattle.format.proofs.Back.{Comes, reads-n, reads-e, reads-es, reads-v, reads-cs, reads-p, reads-back}
+use Rattle.format.proofs.Sound.{below-append, below-take, written-once}
 
 by-option : {A : Type 0} (o : Option A) → (o ≡ None) ⊎ ((a : A) × (o ≡ Some a))
 by-option None = inl refl
@@ -75,36 +77,61 @@ reads vars x r ps k = reads-v x r ps k
 reads cmds x r ps k = reads-cs x r ps k
 reads functions x r ps k = reads-p x r ps k
 
-filled : (ps : List Part) (k : Makes ps Program) → (zs : List ℕ) × (q : Program) × ((at : ℕ) → parse zs ps k at ≡ program q)
-unfolding parse
-filled [] k = ([], k, λ at. refl)
-filled (p ∷ ps) k =
-    let t : (zs : List ℕ) × (q : Program) × ((at : ℕ) → parse zs ps (k (least p)) at ≡ program q) = filled ps (k (least p)) in
-    let r : Comes (bytes p (least p) (t .0)) (p ∷ ps) k (t .0) ps (k (least p)) = reads p (least p) (t .0) ps k in
-    (bytes p (least p) (t .0), t .1, λ at. r .is at ∙ t .2 (r .to at))
+-- and its bytes are below 256
+low-bytes : (p : Part) (r : List ℕ) → all-below 256 r ≡ true → all-below 256 (bytes p (least p) r) ≡ true
+unfolding all-below bytes-n bytes-f
+low-bytes number r h = h
+low-bytes expr r h = h
+low-bytes exprs r h = h
+low-bytes vars r h = h
+low-bytes cmds r h = h
+low-bytes functions r h = h
 
-completed : (xs ys : List ℕ) (ps : List Part) (k : Makes ps Program) (at m : ℕ) → parse (xs ++ ys) ps k at ≡ garbled m → at + length xs ≤ m → (zs : List ℕ) × (q : Program) × (parse (xs ++ zs) ps k at ≡ program q)
+-- bytes that end what is expected
+pub record Ends (ps : List Part) (k : Makes ps Program) : Type 0 where
+  pub with : List ℕ
+  pub as-program : Program
+  pub low : all-below 256 with ≡ true
+  pub reads : (at : ℕ) → parse with ps k at ≡ program as-program
+
+filled : (ps : List Part) (k : Makes ps Program) → Ends ps k
+unfolding parse all-below
+filled [] k = record { with = []; as-program = k; low = refl; reads = λ at. refl }
+filled (p ∷ ps) k =
+    let t : Ends ps (k (least p)) = filled ps (k (least p)) in
+    let r : Comes (bytes p (least p) (t .with)) (p ∷ ps) k (t .with) ps (k (least p)) = reads p (least p) (t .with) ps k in
+    record { with = bytes p (least p) (t .with); as-program = t .as-program; low = low-bytes p (t .with) (t .low); reads = λ at. r .is at ∙ t .reads (r .to at) }
+
+-- what stands before the place can be completed
+abbrev Completes : List ℕ → (ps : List Part) → Makes ps Program → ℕ → Type 0
+Completes xs ps k at = (zs : List ℕ) × (q : Program) × (all-below 256 zs ≡ true) × (parse (xs ++ zs) ps k at ≡ program q)
+
+completed : (xs ys : List ℕ) (ps : List Part) (k : Makes ps Program) (at m : ℕ) → parse (xs ++ ys) ps k at ≡ garbled m → at + length xs ≤ m → Completes xs ps k at
 unfolding parse
-completed [] ys ps k at m e h = (filled ps k .0, filled ps k .1, filled ps k .2 at)
+completed [] ys ps k at m e h = (filled ps k .with, filled ps k .as-program, filled ps k .low, filled ps k .reads at)
 completed (x ∷ xs) ys [] k at m e h = absurd (omega (arith, same-place at m e))
 completed (x ∷ xs) ys (p ∷ ps) k at m e h =
     elim (by-option (rule p x)) [
       | inl n ↦ absurd (omega (arith, same-place at m (sym (none-there x (xs ++ ys) p ps k at n) ∙ e)))
       | inr s ↦
-          let r : (zs : List ℕ) × (q : Program) × (parse (xs ++ zs) (s .0 .0 ++ ps) (joined (Of p) Program (s .0 .0) ps (s .0 .1) k) (suc at) ≡ program q) =
+          let r : Completes xs (s .0 .0 ++ ps) (joined (Of p) Program (s .0 .0) ps (s .0 .1) k) (suc at) =
           completed xs ys (s .0 .0 ++ ps) (joined (Of p) Program (s .0 .0) ps (s .0 .1) k) (suc at) m (sym (some-there x (xs ++ ys) p ps k at (s .0) (s .1)) ∙ e) (omega arith) in
-          (r .0, r .1, some-there x (xs ++ r .0) p ps k at (s .0) (s .1) ∙ r .2)
+          (r .0, r .1, r .2, some-there x (xs ++ r .0) p ps k at (s .0) (s .1) ∙ r .3)
     ]
 
 parted : (n : ℕ) (text : List ℕ) (m : ℕ) → read text ≡ garbled m → read (take n text ++ drop n text) ≡ garbled m
 parted n text m e = ap read (take-append-drop n text) ∙ e
 
-pub ceases : (text : List ℕ) (k : ℕ) → read text ≡ garbled k → Ceases text k
+pub place-is-right : Place-is-right
 unfolding read
-ceases text k e =
+place-is-right text k b e =
     let w : (0 ≤ k) × (k ≤ 0 + length text) = within text (functions ∷ []) (λ p. p) 0 k e in
-    let h : k ≤ length text = omega arith in (
+    let h : k ≤ length text = omega arith in
+    let f : Completes (take k text) (functions ∷ []) (λ p. p) 0 =
+    completed (take k text) (drop k text) (functions ∷ []) (λ p. p) 0 k (parted k text k e) (omega (arith, length-take k text)) in (
       h,
-      completed (take k text) (drop k text) (functions ∷ []) (λ p. p) 0 k (parted k text k e) (omega (arith, length-take k text)),
-      λ l b. no-program k (b .1) (sym (b .2) ∙ anyway (take (k + 1) text) (drop (k + 1) text) (b .0) (functions ∷ []) (λ p. p) 0 k (parted (k + 1) text k e) (omega (arith, length-take (k + 1) text))),
+      (f .1, f .0, sym (written-once (take k text ++ f .0) (f .1) (below-append 256 (take k text) (f .0) (below-take 256 k text b) (f .2)) (f .3))),
+      (λ l s. no-program k (s .0) (sym (ap read (sym (s .2)) ∙ reads-back (s .0))
+          ∙ anyway (take (k + 1) text) (drop (k + 1) text) (s .1) (functions ∷ []) (λ p. p) 0 k (parted (k + 1) text k e) (omega (arith, length-take (k + 1) text)))),
+      (λ l p q. no-program k p (sym (reads-back p) ∙ ap read q ∙ e)),
     )

@@ -1,18 +1,18 @@
 -- What is read is what stands there: one way to write each program.
 use mathlib.Core.Path.{_≡_, refl, ap, _∙_, sym, subst}
-use mathlib.Core.Bool.{Bool, true, false, cond}
+use mathlib.Core.Bool.{Bool, true, false, cond, _&&_}
 use mathlib.Core.Logic.{_⊎_, inl, inr}
 use mathlib.Core.List.{List, [], _∷_, _++_}
 use Prim.Native.Nat.{ℕ, zero, suc, _≤_, _<_, _-_, _+_, _*_, _/_, _%_}
 use native.Mathlib.Omega.{arith}
 use lib.Dec.{ltb, eqb}
-use lib.ListN.{getD}
+use lib.ListN.{getD, take}
 use Rattle.std.specs.declared.option.Option.{Option}
 use Rattle.std.specs.declared.option.Option.the-variants.{Some, None}
-use Rattle.std.proofs.shelf.Tests.{lt-ltb, le-ltb, eq-eqb, ne-eqb, cond-true, cond-false, cases-lt, cases-eq}
+use Rattle.std.proofs.shelf.Tests.{lt-ltb, le-ltb, eq-eqb, ne-eqb, cond-true, cond-false, cases-lt, cases-eq, ltb-true, and-parts}
 use Rattle.model.specs.Source.{Op, add, sub, mul, mul-high, div, rem, and, or, xor, shift-right, shift-left, shift-signed, less-s, less, equal, Expr, word, var, load, op, if-not-zero, Cmd, set, store, if-then, while, call, from-door, to-door, Cmds, none, more, Function, Program}
-use Rattle.model.specs.Promise.{Text, program, garbled}
-use Rattle.format.specs.Format.{Part, number, expr, exprs, vars, cmds, functions, Of, Makes, Rule, Table, find, joined, expr-rules, exprs-rules, vars-rules, cmds-rules, functions-rules, rule, by-rule, parse, read, function-of, bytes-f, bytes-n, bytes-p, bytes, bytes-of}
+use Rattle.model.specs.Promise.{Text, program, garbled, all-below}
+use Rattle.format.specs.Format.{Part, number, expr, exprs, vars, cmds, functions, Of, Makes, Rule, Table, find, joined, expr-rules, exprs-rules, vars-rules, cmds-rules, functions-rules, rule, by-rule, parse, read, function-of, bytes-f, bytes-n, bytes-p, bytes, bytes-of, Written-once}
 
 -- what is made has the bytes so far, and then those of what is still expected
 abbrev Writes : (ps : List Part) → Makes ps Program → (List ℕ → List ℕ) → Type 0
@@ -248,3 +248,29 @@ sound (b ∷ bs) (p ∷ ps) k at f q s w e =
 pub one-way-to-write : (text : List ℕ) (p : Program) → ((i : ℕ) → getD text i 0 < 256) → read text ≡ program p → text ≡ bytes-of p
 unfolding read bytes-of
 one-way-to-write text p s e = sym (sound text (functions ∷ []) (λ q. q) 0 (λ r. r) p s (λ q. refl) e)
+
+-- bytes below a bound
+pub below-at : (b : ℕ) (xs : List ℕ) → 0 < b → all-below b xs ≡ true → (i : ℕ) → getD xs i 0 < b
+unfolding all-below
+below-at b [] z h i = z
+below-at b (x ∷ xs) z h zero = ltb-true x b (and-parts (ltb x b) (all-below b xs) h .0)
+below-at b (x ∷ xs) z h (suc i) = below-at b xs z (and-parts (ltb x b) (all-below b xs) h .1) i
+
+and-true : (c d : Bool) → c ≡ true → d ≡ true → (c && d) ≡ true
+and-true c d p q = ap (λ (x : Bool). x && d) p ∙ q
+
+pub below-append : (b : ℕ) (xs ys : List ℕ) → all-below b xs ≡ true → all-below b ys ≡ true → all-below b (xs ++ ys) ≡ true
+unfolding all-below
+below-append b [] ys h g = g
+below-append b (x ∷ xs) ys h g =
+    let q : (ltb x b ≡ true) × (all-below b xs ≡ true) = and-parts (ltb x b) (all-below b xs) h in and-true (ltb x b) (all-below b (xs ++ ys)) (q .0) (below-append b xs ys (q .1) g)
+
+pub below-take : (b k : ℕ) (xs : List ℕ) → all-below b xs ≡ true → all-below b (take k xs) ≡ true
+unfolding all-below
+below-take b zero xs h = refl
+below-take b (suc k) [] h = refl
+below-take b (suc k) (x ∷ xs) h =
+    let q : (ltb x b ≡ true) × (all-below b xs ≡ true) = and-parts (ltb x b) (all-below b xs) h in and-true (ltb x b) (all-below b (take k xs)) (q .0) (below-take b k xs (q .1))
+
+pub written-once : Written-once
+written-once bs p b e = one-way-to-write bs p (below-at 256 bs (omega arith) b) e

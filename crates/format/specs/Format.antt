@@ -8,7 +8,7 @@ use lib.ListN.{length, take}
 use Rattle.std.specs.declared.option.Option.{Option}
 use Rattle.std.specs.declared.option.Option.the-variants.{Some, None}
 use Rattle.model.specs.Source.{Op, add, sub, mul, mul-high, div, rem, and, or, xor, shift-right, shift-left, shift-signed, less-s, less, equal, Expr, word, var, load, op, if-not-zero, Cmd, set, store, if-then, while, call, from-door, to-door, Cmds, none, more, Function, Program}
-use Rattle.model.specs.Promise.{Text, program, garbled}
+use Rattle.model.specs.Promise.{Text, program, garbled, Format, all-below}
 
 -- what can be expected: a number, an expression, expressions, variables, commands, functions
 pub data Part : Type 0 where
@@ -183,10 +183,21 @@ bytes functions fs r = bytes-p fs r
 unfoldable pub bytes-of : Program → List ℕ
 bytes-of p = bytes-p p []
 
--- what can be the beginning of a program
-abbrev pub Begins : List ℕ → Type 0
-Begins xs = (zs : List ℕ) × (p : Program) × (read (xs ++ zs) ≡ program p)
+-- what the promises ask of bytes
+abbrev pub format : Format
+format = record { bytes-of = bytes-of; read = read }
 
--- where a text ceases to be one: what stands before can be the beginning of a program, with the byte there it can't
-abbrev pub Ceases : List ℕ → ℕ → Type 0
-Ceases text k = (k ≤ length text) × Begins (take k text) × (k < length text → Begins (take (k + 1) text) → ⊥)
+-- there is one way to write each program: bytes that are read as a program are its bytes
+abbrev pub Written-once : Type 0
+Written-once = (bs : List ℕ) (p : Program) → all-below 256 bs ≡ true → read bs ≡ program p → bs ≡ bytes-of p
+
+-- the beginning of some program's bytes
+abbrev pub Begins : List ℕ → Type 0
+Begins xs = (p : Program) × (zs : List ℕ) × (bytes-of p ≡ xs ++ zs)
+
+-- where bytes cease to be a program: what stands before the place begins some program's bytes; with the byte there it begins
+-- none, or, where all bytes stand before it, they are no program's
+abbrev pub Place-is-right : Type 0
+Place-is-right =
+    (bs : List ℕ) (k : ℕ) → all-below 256 bs ≡ true → read bs ≡ garbled k →
+    (k ≤ length bs) × Begins (take k bs) × (k < length bs → Begins (take (k + 1) bs) → ⊥) × (k ≡ length bs → (p : Program) → bytes-of p ≡ bs → ⊥)
