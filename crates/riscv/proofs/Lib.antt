@@ -1,2 +1,4 @@
 pub mod Formats
 pub mod Meaning
+mod Shifts
+mod Words

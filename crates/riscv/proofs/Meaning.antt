@@ -96,8 +96,7 @@ by-j-type b c o d n w h =
     ∙ (λ i. by-fields b c (h .opcode' i) (h .rd' i) (f3 w) (rs1 w) (rs2 w) (f7 w) (imm-i w) (imm-s w) (imm-b w) (imm-u w) (signed 21 (h .imm' i)))
 
 -- the fixed fields have their number of bits
-branch-small : (q : Condition) → branch-f3 q < 8
-unfolding branch-f3
+pub branch-small : (q : Condition) → branch-f3 q < 8
 branch-small Eq = omega arith
 branch-small Ne = omega arith
 branch-small Lt = omega arith
@@ -105,22 +104,19 @@ branch-small Ge = omega arith
 branch-small Ltu = omega arith
 branch-small Geu = omega arith
 
-load-small : (o : LoadOp) → load-f3 o < 8
-unfolding load-f3
+pub load-small : (o : LoadOp) → load-f3 o < 8
 load-small Lb = omega arith
 load-small Lh = omega arith
 load-small Lw = omega arith
 load-small Lbu = omega arith
 load-small Lhu = omega arith
 
-store-small : (o : StoreOp) → store-f3 o < 8
-unfolding store-f3
+pub store-small : (o : StoreOp) → store-f3 o < 8
 store-small Sb = omega arith
 store-small Sh = omega arith
 store-small Sw = omega arith
 
-immediate-small : (o : ImmediateOp) → immediate-f3 o < 8
-unfolding immediate-f3
+pub immediate-small : (o : ImmediateOp) → immediate-f3 o < 8
 immediate-small Addi = omega arith
 immediate-small Slti = omega arith
 immediate-small Sltiu = omega arith
@@ -128,14 +124,12 @@ immediate-small Xori = omega arith
 immediate-small Ori = omega arith
 immediate-small Andi = omega arith
 
-shift-small : (o : ShiftOp) → (shift-f3 o < 8) × (shift-f7 o < 128)
-unfolding shift-f3 shift-f7
+pub shift-small : (o : ShiftOp) → (shift-f3 o < 8) × (shift-f7 o < 128)
 shift-small Slli = omega arith
 shift-small Srli = omega arith
 shift-small Srai = omega arith
 
-register-small : (o : RegisterOp) → (register-f3 o < 8) × (register-f7 o < 128)
-unfolding register-f3 register-f7
+pub register-small : (o : RegisterOp) → (register-f3 o < 8) × (register-f7 o < 128)
 register-small Add = omega arith
 register-small Sub = omega arith
 register-small Sll = omega arith
@@ -171,7 +165,7 @@ jalr-picked b c d s t g ii is ib iu ij = refl
 
 branch-picked : (b : Board) (c : Cpu) (q : Condition) (d s t g ii is ib iu ij : ℕ) →
     by-fields b c 99 d (branch-f3 q) s t g ii is ib iu ij ≡ pick (holds q (reg c s) (reg c t)) (jump c (plus (c .pc) ib)) (at-pc (plus (c .pc) 4) c)
-unfolding branch-f3 holds by-fields pick
+unfolding holds by-fields pick
 branch-picked b c Eq d s t g ii is ib iu ij = refl
 branch-picked b c Ne d s t g ii is ib iu ij = refl
 branch-picked b c Lt d s t g ii is ib iu ij = refl
@@ -181,7 +175,7 @@ branch-picked b c Geu d s t g ii is ib iu ij = refl
 
 load-picked : (b : Board) (c : Cpu) (o : LoadOp) (d s t g ii is ib iu ij : ℕ) →
     by-fields b c 3 d (load-f3 o) s t g ii is ib iu ij ≡ loads b c d (plus (reg c s) ii) (load-size o) (extended o)
-unfolding load-f3 load-size extended by-fields pick
+unfolding load-size extended by-fields pick
 load-picked b c Lb d s t g ii is ib iu ij = refl
 load-picked b c Lh d s t g ii is ib iu ij = refl
 load-picked b c Lw d s t g ii is ib iu ij = refl
@@ -190,14 +184,14 @@ load-picked b c Lhu d s t g ii is ib iu ij = refl
 
 store-picked : (b : Board) (c : Cpu) (o : StoreOp) (d s t g ii is ib iu ij : ℕ) →
     by-fields b c 35 d (store-f3 o) s t g ii is ib iu ij ≡ stores b c (plus (reg c s) is) (store-size o) (reg c t)
-unfolding store-f3 store-size by-fields pick
+unfolding store-size by-fields pick
 store-picked b c Sb d s t g ii is ib iu ij = refl
 store-picked b c Sh d s t g ii is ib iu ij = refl
 store-picked b c Sw d s t g ii is ib iu ij = refl
 
 immediate-picked : (b : Board) (c : Cpu) (o : ImmediateOp) (d s t g ii is ib iu ij : ℕ) →
     by-fields b c 19 d (immediate-f3 o) s t g ii is ib iu ij ≡ put d (with-immediate o (reg c s) ii) c
-unfolding immediate-f3 with-immediate by-fields pick
+unfolding with-immediate by-fields pick
 immediate-picked b c Addi d s t g ii is ib iu ij = refl
 immediate-picked b c Slti d s t g ii is ib iu ij = refl
 immediate-picked b c Sltiu d s t g ii is ib iu ij = refl
@@ -207,14 +201,14 @@ immediate-picked b c Andi d s t g ii is ib iu ij = refl
 
 shift-picked : (b : Board) (c : Cpu) (o : ShiftOp) (d s t ii is ib iu ij : ℕ) →
     by-fields b c 19 d (shift-f3 o) s t (shift-f7 o) ii is ib iu ij ≡ put d (shifted o (reg c s) t) c
-unfolding shift-f3 shift-f7 shifted by-fields pick
+unfolding shifted by-fields pick
 shift-picked b c Slli d s t ii is ib iu ij = refl
 shift-picked b c Srli d s t ii is ib iu ij = refl
 shift-picked b c Srai d s t ii is ib iu ij = refl
 
 register-picked : (b : Board) (c : Cpu) (o : RegisterOp) (d s t ii is ib iu ij : ℕ) →
     by-fields b c 51 d (register-f3 o) s t (register-f7 o) ii is ib iu ij ≡ put d (with-register o (reg c s) (reg c t)) c
-unfolding register-f3 register-f7 with-register by-fields pick
+unfolding with-register by-fields pick
 register-picked b c Add d s t ii is ib iu ij = refl
 register-picked b c Sub d s t ii is ib iu ij = refl
 register-picked b c Sll d s t ii is ib iu ij = refl
