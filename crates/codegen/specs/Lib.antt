@@ -3,3 +3,4 @@ pub mod Expressions
 pub mod Commands
 pub mod Functions
 pub mod Program
+pub mod Emission
