@@ -147,3 +147,13 @@ looped-emitted pos test first body jump end x old is js a0 a1 a2 a3 a4 a5 a6 p s
         and-then pos test end is (skip-unless-zero ∷ (jump-on (2 + length js) ∷ tail)) a0 a1 a6 p
             (and-then test first end (skip-unless-zero ∷ []) (jump-on (2 + length js) ∷ tail) a1 a2 a6 skip all))
     (patch .kept ∙ again .kept ∙ q .kept ∙ hole .kept ∙ skip .kept ∙ p .kept)
+
+-- one instruction, where there is room
+pub one-emitted : (xs : List ℕ) (pos w : ℕ) (i : Instruction) → pos < length xs → w ≡ encode i → Emitted pos (pos + 1) (i ∷ []) xs (set xs pos w)
+unfolding words-of
+one-emitted xs pos w i h e = record {
+    ends = λ s. refl; wrote = λ s r. subst (λ (x : ℕ). Wrote pos (x ∷ []) xs (set xs pos w)) e (one-wrote xs pos w h); kept = length-set xs pos w }
+
+-- and where there is none
+pub one-counted : (xs : List ℕ) (pos end : ℕ) (i : Instruction) → length xs ≤ pos → (pos < limit → end ≡ pos + 1) → Emitted pos end (i ∷ []) xs xs
+one-counted xs pos end i h e = record { ends = λ s. e (omega arith); wrote = λ s r. absurd (omega arith); kept = refl }

@@ -1,1 +1,4 @@
 pub mod Emitted
+pub mod Operators
+pub mod Sizes
+pub mod ExpressionParts

@@ -4,3 +4,6 @@ pub mod Commands
 pub mod Functions
 pub mod Program
 pub mod Emission
+pub mod Valid
+pub mod Emits
+pub mod Choosing

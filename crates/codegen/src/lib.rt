@@ -1,1 +1,5 @@
 // The code of a program: from its bytes to words of the machine.
+pub mod commands;
+pub mod cursor;
+pub mod expressions;
+pub mod output;

@@ -1,0 +1,4 @@
+use Rattle.codegen.proofs.output.encode.Needs as need
+
+pub returns : need.returns
+returns c = ?
