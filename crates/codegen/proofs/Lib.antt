@@ -2,3 +2,4 @@ pub mod Emitted
 pub mod Operators
 pub mod Sizes
 pub mod ExpressionParts
+pub mod SlotParts

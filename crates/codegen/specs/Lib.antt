@@ -4,6 +4,7 @@ pub mod Commands
 pub mod Functions
 pub mod Program
 pub mod Emission
+pub mod Transfers
 pub mod Valid
 pub mod Emits
 pub mod Choosing

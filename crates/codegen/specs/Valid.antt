@@ -23,25 +23,24 @@ abbrev pub Valid-v : List ℕ → Type 0
 Valid-v [] = Unit {0}
 Valid-v (x ∷ xs) = (x < 256) × Valid-v xs
 
--- in a program of n functions, at most k ifs and whiles in one another
+-- at most k ifs and whiles in one another
 abbrev mutual
-  pub Valid-c : ℕ → ℕ → Cmd → Type 0
-  Valid-c n k (set x e) = (x < 256) × Valid-e 32 e
-  Valid-c n k (store s d e) = (good-size s ≡ true) × Valid-e 32 d × Valid-e 32 e
-  Valid-c n k (if-then e cs ds) = (0 < k) × Valid-e 32 e × Valid-cs n (k - 1) cs × Valid-cs n (k - 1) ds
-  Valid-c n k (while e cs) = (0 < k) × Valid-e 32 e × Valid-cs n (k - 1) cs
-  Valid-c n k (call g es xs) = (g < n) × (length es ≤ 8) × (length xs ≤ 8) × Valid-es es × Valid-v xs
-  Valid-c n k (from-door x d) = (x < 256) × (d < 256)
-  Valid-c n k (to-door d e) = (d < 256) × Valid-e 32 e
+  pub Valid-c : ℕ → Cmd → Type 0
+  Valid-c k (set x e) = (x < 256) × Valid-e 32 e
+  Valid-c k (store n d e) = (good-size n ≡ true) × Valid-e 32 d × Valid-e 32 e
+  Valid-c k (if-then e cs ds) = (0 < k) × Valid-e 32 e × Valid-cs (k - 1) cs × Valid-cs (k - 1) ds
+  Valid-c k (while e cs) = (0 < k) × Valid-e 32 e × Valid-cs (k - 1) cs
+  Valid-c k (call g es xs) = (g < 256) × (length es ≤ 8) × (length xs ≤ 8) × Valid-es es × Valid-v xs
+  Valid-c k (from-door x d) = (x < 256) × (d < 256)
+  Valid-c k (to-door d e) = (d < 256) × Valid-e 32 e
 
-  pub Valid-cs : ℕ → ℕ → Cmds → Type 0
-  Valid-cs n k none = Unit {0}
-  Valid-cs n k (more c cs) = Valid-c n k c × Valid-cs n k cs
+  pub Valid-cs : ℕ → Cmds → Type 0
+  Valid-cs k none = Unit {0}
+  Valid-cs k (more c cs) = Valid-c k c × Valid-cs k cs
 
-abbrev pub Valid-f : ℕ → Function → Type 0
-Valid-f n f = (f .arguments ≤ 8) × (f .variables ≤ 256) × (length (f .results) ≤ 8) × Valid-v (f .results) × Valid-cs n 32 (f .body)
+abbrev pub Valid-f : Function → Type 0
+Valid-f f = (f .arguments ≤ 8) × (f .variables ≤ 256) × (length (f .results) ≤ 8) × Valid-v (f .results) × Valid-cs 32 (f .body)
 
--- of functions in a program of n
-abbrev pub Valid-fs : ℕ → Program → Type 0
-Valid-fs n [] = Unit {0}
-Valid-fs n (f ∷ fs) = Valid-f n f × Valid-fs n fs
+abbrev pub Valid-p : Program → Type 0
+Valid-p [] = Unit {0}
+Valid-p (f ∷ fs) = Valid-f f × Valid-p fs

@@ -7,7 +7,6 @@ ghost use Rattle.codegen.specs.Expressions.{code-e, code-op, load-of};
 ghost use Rattle.model.specs.Source.{word};
 ghost use Rattle.words.specs.Operators.{op-of};
 ghost use mathlib.Core.Path.{_≡_};
-
 use crate::cursor::Cursor;
 use crate::output::patch;
 use crate::output::put;
@@ -28,7 +27,11 @@ fn word(code: &mut [u32], pos: usize, v: u64) -> usize
     let n = v % 0x1_0000_0000;
     let upper = ((n + 2048) / 4096 % 1048576) as u32;
     let pos = put(code, pos, Instruction::Lui(5, upper));
-    put(code, pos, Instruction::Immediate(ImmediateOp::Addi, 5, 5, (n % 4096) as u32))
+    put(
+        code,
+        pos,
+        Instruction::Immediate(ImmediateOp::Addi, 5, 5, (n % 4096) as u32),
+    )
 }
 
 fn load_op(size: u64) -> LoadOp
@@ -69,7 +72,11 @@ fn operator(code: &mut [u32], pos: usize, o: Operator) -> usize
 {
     let pos = put(code, pos, Instruction::Register(register_op(o), 5, 6, 5));
     match o {
-        Operator::Equal => put(code, pos, Instruction::Immediate(ImmediateOp::Sltiu, 5, 5, 1)),
+        Operator::Equal => put(
+            code,
+            pos,
+            Instruction::Immediate(ImmediateOp::Sltiu, 5, 5, 1),
+        ),
         _ => pos,
     }
 }
@@ -89,7 +96,14 @@ fn load(text: &[u8], code: &mut [u32], from: Cursor, temp: u32, depth: u32, size
 }
 
 // An operation, after its head: the first operand waits in a slot.
-fn operation(text: &[u8], code: &mut [u32], from: Cursor, temp: u32, depth: u32, o: Operator) -> Cursor
+fn operation(
+    text: &[u8],
+    code: &mut [u32],
+    from: Cursor,
+    temp: u32,
+    depth: u32,
+    o: Operator,
+) -> Cursor
     requires { ⌜ temp + depth < 1024 ⌝ }
     ensures emits { λ r. ⌜ Emits-operation (now (text .entry)) from r o temp depth (now (code .entry)) (now (code .exit)) ⌝ }
     ensures moves { λ r. ⌜ Moves (now (text .entry)) from r ⌝ }
@@ -119,7 +133,16 @@ fn choice(text: &[u8], code: &mut [u32], from: Cursor, temp: u32, depth: u32) ->
     let pos = put(code, first, Instruction::Jal(0, 0));
     let d = expression(text, code, Cursor { at: c.at, pos }, temp, depth - 1);
     let third = put(code, d.pos, Instruction::Jal(0, 0));
-    let e = expression(text, code, Cursor { at: d.at, pos: third }, temp, depth - 1);
+    let e = expression(
+        text,
+        code,
+        Cursor {
+            at: d.at,
+            pos: third,
+        },
+        temp,
+        depth - 1,
+    );
     patch(code, d.pos, e.pos);
     patch(code, first, third);
     e
@@ -134,14 +157,21 @@ pub fn expression(text: &[u8], code: &mut [u32], from: Cursor, temp: u32, depth:
     let Some(n) = next(text, from.at) else {
         return from;
     };
-    let head = Cursor { at: n.end, pos: from.pos };
+    let head = Cursor {
+        at: n.end,
+        pos: from.pos,
+    };
     match n.token {
         Token::Word(v) => {
             let pos = word(code, from.pos, v);
             Cursor { at: n.end, pos }
         }
         Token::Var(x) => {
-            let pos = put(code, from.pos, Instruction::Load(LoadOp::Lw, 5, 2, 4 * (x % 1024) as u32));
+            let pos = put(
+                code,
+                from.pos,
+                Instruction::Load(LoadOp::Lw, 5, 2, 4 * (x % 1024) as u32),
+            );
             Cursor { at: n.end, pos }
         }
         Token::Load(size) => load(text, code, head, temp, depth, size),

@@ -3,3 +3,5 @@ pub mod commands;
 pub mod cursor;
 pub mod expressions;
 pub mod output;
+pub mod slots;
+pub mod transfer;

@@ -3,10 +3,10 @@ ghost use Prim.Native.Nat.{_*_, _-_, _%_, _<_, _≤_};
 ghost use Rattle.codegen.specs.Emission.{limit, Puts, Patched};
 ghost use Rattle.codegen.specs.Expressions.{jump-on};
 ghost use Rattle.codegen.specs.Frame.{back};
-ghost use Rattle.riscv.specs.Encoding.{encode as encoded, Fits};
+ghost use Rattle.riscv.specs.Encoding.{encode as encoded};
 ghost use lib.ListN.{length, set};
 ghost use mathlib.Core.Path.{_≡_};
-
+use riscv::encoding::encode;
 use riscv::instruction::Instruction;
 
 // One instruction at `pos`; what comes after it stands at the answer.
@@ -44,12 +44,4 @@ pub fn back_to(start: usize, pos: usize) -> u32
 {
     let words = (pos.saturating_sub(start) % 524288) as u32;
     (2097152 - 4 * words) % 2097152
-}
-
-fn encode(i: Instruction) -> u32
-    ensures { λ r. ⌜ (Fits i → r ≡ encoded i) ⌝ }
-{
-    match i {
-        _ => 0,
-    }
 }
