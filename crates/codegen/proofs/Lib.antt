@@ -3,3 +3,4 @@ pub mod Operators
 pub mod Sizes
 pub mod ExpressionParts
 pub mod SlotParts
+pub mod CommandParts

@@ -6,3 +6,10 @@ pub struct Cursor {
     // a word of the code
     pub pos: usize,
 }
+
+// A cursor after so many parts.
+#[derive(Clone, Copy)]
+pub struct Counted {
+    pub to: Cursor,
+    pub count: u32,
+}
