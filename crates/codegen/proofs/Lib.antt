@@ -4,3 +4,4 @@ pub mod Sizes
 pub mod ExpressionParts
 pub mod SlotParts
 pub mod CommandParts
+pub mod FunctionParts

@@ -8,3 +8,4 @@ pub mod Transfers
 pub mod Valid
 pub mod Emits
 pub mod Choosing
+pub mod Framed

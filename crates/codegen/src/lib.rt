@@ -2,6 +2,9 @@
 pub mod commands;
 pub mod cursor;
 pub mod expressions;
+pub mod frame;
+pub mod functions;
+pub mod layout;
 pub mod output;
 pub mod slots;
 pub mod transfer;
