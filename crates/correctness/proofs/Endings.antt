@@ -1,21 +1,21 @@
 -- From a plan for every time to what is promised of a run: it ends as the program does, it does no more, and what the stack held is never seen.
 use mathlib.Core.Path.{_≡_, refl, ap, sym, _∙_, subst}
 use mathlib.Core.Logic.{_⊎_, inl, inr}
-use mathlib.Core.Bool.{false, not}
+use mathlib.Core.Bool.{true, false, not}
 use mathlib.Core.List.{List, [], _∷_}
 use Prim.Native.Nat.{ℕ, _+_, _-_, _≤_, _<_}
 use native.Mathlib.Omega.{arith}
 use lib.ListN.{length}
 use borrow.Author.Tests.{eq-eqb}
-use Rattle.std.proofs.shelf.Tests.{and-from, cases-lt, true≢false}
+use Rattle.std.proofs.shelf.Tests.{and-parts, and-from, cases-lt, true≢false}
 use Rattle.model.specs.Words.{many, nth, Act}
 use Rattle.model.specs.Source.{Function, Program, State, Out, goes, stuck, tired, run, state-of, function-at, entered, taken, padded}
-use Rattle.model.specs.Machine.{Board, Cpu, steps, the-end, begins}
-use Rattle.model.specs.Promise.{Limits, Ends-so, Since, is-stuck, by-source, first-body, first-vars}
+use Rattle.model.specs.Machine.{Board, Cpu, steps, the-end, begins, at-the-end}
+use Rattle.model.specs.Promise.{Limits, Ends-so, Since, is-stuck, is-tired, by-source, first-body, first-vars}
 use Rattle.codegen.specs.Frame.{frame-bytes}
 use Rattle.codegen.specs.Functions.{code-f}
 use Rattle.model.proofs.Steps.{past-the-end, unbroken-before}
-use Rattle.correctness.proofs.Plans.{Plan, Follows, and-so, follows-same, follows-since}
+use Rattle.correctness.proofs.Plans.{Plan, Follows, and-so, follows-same, follows-since, follows-running}
 use Rattle.correctness.proofs.CodeInPlace.{At}
 use Rattle.correctness.proofs.Frames.{Has-frame}
 use Rattle.correctness.proofs.Simulation.{Same-acts, Arrives, Lasts, Follows-run}
@@ -82,6 +82,13 @@ hidden (goes t) n p b c d s e x y = on (cases-lt n (length p))
     on (inr h) = ap (λ z. z .acts) (past-the-end b c (length p) n h (ex .pc)) ∙ ex .acts ∙ sym (ap (λ z. z .acts) (past-the-end b d (length p) n h (ey .pc)) ∙ ey .acts)
 hidden (stuck t) n p b c d s e x y = absurd (true≢false s)
 hidden (tired t) n p b c d s e x y = follows-same p b c d e (x .reach .says) (y .reach .says) n (x .lasts)
+
+-- the machine is at its end only after the program has come to its own
+pub ends-only : (o : Out) (n k : ℕ) (p : Plan) (b : Board) (c : Cpu) → is-stuck o ≡ false → Follows-run p o n b c Ended → k < n → at-the-end (steps k b c) ≡ true → is-tired o ≡ false
+unfolding is-stuck is-tired Arrives Lasts
+ends-only (goes t) n k p b c s a h e = refl
+ends-only (stuck t) n k p b c s a h e = absurd (true≢false s)
+ends-only (tired t) n k p b c s a h e = absurd (true≢false (sym (and-parts _ _ e .0) ∙ follows-running p b c (a .reach .says) k (omega (arith, a .lasts))))
 
 -- a program, its code in place, and stack enough
 abbrev pub env : Limits → Program → Board → (ℕ → ℕ) → Env

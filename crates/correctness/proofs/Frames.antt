@@ -9,7 +9,7 @@ use lib.ListN.{length}
 use borrow.Author.Tests.{lt-ltb, ne-eqb}
 use Rattle.model.specs.Words.{pick, whole, plus, signed, two-to, nth, set-at, bytes-put, Act}
 use Rattle.model.specs.Source.{State}
-use Rattle.model.specs.Machine.{Board, Cpu, step, steps, reg, put, loads, stores}
+use Rattle.model.specs.Machine.{Board, Cpu, step, steps, the-end, reg, put, loads, stores}
 use Rattle.model.specs.Promise.{fine-cpu, Machine-stays}
 use Rattle.riscv.specs.declared.instruction.Instruction.{Instruction}
 use Rattle.riscv.specs.Execution.{exec, load-size, store-size, extended}
@@ -82,7 +82,7 @@ pub one : {b : Board} {c : Cpu} (q slots k : ℕ) (i : Instruction) (is : List I
 unfolding At steps Machine-stays Follows
 one {b} {c} q slots k i is a {Q} g pc at ac f =
     let e : step b c ≡ exec b c i = step-at b c k i (omega (arith, g .code-low, g .apart, g .top)) (at .0) (at .1) (at .2) pc (g .unbroken) in
-    record { holds = subst Q (sym e) (f (subst (λ d. fine-cpu d ≡ true) e (machine-stays 1 b c (g .fine)))); says = (record { added = ap (λ d. d .acts) e ∙ ac }, tt) }
+    record { holds = subst Q (sym e) (f (subst (λ d. fine-cpu d ≡ true) e (machine-stays 1 b c (g .fine)))); says = (record { running = ne-eqb (c .pc) the-end (λ x. omega (arith, at .1, g .code-low, g .apart, g .top)); added = ap (λ d. d .acts) e ∙ ac }, tt) }
 
 -- with no act, to a machine that is known
 pub one-quiet : {b : Board} {c : Cpu} (q slots k : ℕ) (i : Instruction) (is : List Instruction) {Q : Cpu → Type 0} (x : Cpu) → Has-frame b q slots c → c .pc ≡ 4 * k → At (b .code) k (i ∷ is) → exec b c i ≡ x → x .acts ≡ c .acts → (fine-cpu x ≡ true → Q x) → Reach quiet b c Q

@@ -3,7 +3,7 @@ use mathlib.Core.Path.{_≡_, refl, ap, sym, _∙_, subst}
 use mathlib.Core.Logic.{_⊎_, inl, inr, _≢_}
 use mathlib.Core.Bool.{Bool, true, false}
 use mathlib.Core.List.{List}
-use Prim.Native.Nat.{ℕ, _+_, _<_}
+use Prim.Native.Nat.{ℕ, suc, _+_, _<_}
 use native.Mathlib.Omega.{arith}
 use lib.Dec.{eqb}
 use lib.ListN.{length}
@@ -13,7 +13,7 @@ use Rattle.model.specs.Words.{whole, many, nth}
 use Rattle.model.specs.Source.{Program, state-of}
 use Rattle.model.specs.Machine.{Board, steps, begins}
 use Rattle.model.specs.Promise.{Limits, refused, compiled, Text, program, garbled, turned, place, Right-answer, Answers, Same-as-source, Stack-is-hidden, Laid-out, Since, by-source, all-below, fine-cpu}
-use Rattle.correctness.specs.Promised.{Promised}
+use Rattle.correctness.specs.Promised.{Promised, Ends-only-so}
 use Rattle.codegen.specs.Program.{starts, linked, code-of, stack-for, made, compile, compiler}
 use Rattle.model.proofs.Picks.{pick-true, pick-false}
 use Rattle.model.proofs.Accepted.{Accepted, accepted}
@@ -21,7 +21,7 @@ use Rattle.correctness.proofs.Plans.{Plan}
 use Rattle.correctness.proofs.CodeInPlace.{words-length, words-below}
 use Rattle.correctness.proofs.Frames.{Has-frame}
 use Rattle.correctness.proofs.Simulation.{Follows-run}
-use Rattle.correctness.proofs.Endings.{Ended, ends-so, lives, hidden, start}
+use Rattle.correctness.proofs.Endings.{Ended, ends-so, lives, hidden, ends-only, start}
 use Rattle.correctness.proofs.Linking.{code-small, code-size, all-fit, stack-after, stack-size, ready}
 
 -- what is compiled was not refused
@@ -80,6 +80,12 @@ stack-is-hidden can l p cs n b m st su can-is e g g' len alive k =
     hidden (by-source k p b m) k (s k .0) b (begins b m st) (begins b m su) (alive k) refl
     (s k .1 st (begins-framed l p cs n b m st (length st) (c .0) (c .1) g refl)) (s k .1 su (begins-framed l p cs n b m su (length st) (c .0) (c .1) g' (sym len)))
 
+pub ends-only-so : (can : ℕ → Bool) → Ends-only-so can compiler
+ends-only-so can l p cs n b m st can-is e g alive k h =
+    let c : Accepted l p × (code-of p ≡ cs) × (stack-for p ≡ n) = compiled-is l p cs n e in
+    let s : (pl : Plan) × ((su : List ℕ) → Has-frame b (length st) 0 (begins b m su) → Follows-run pl (by-source (suc k) p b m) (suc k) b (begins b m su) Ended) = plans l p cs n b m st (c .0) (c .1) (c .2) g (suc k) in
+    (suc k, ends-only (by-source (suc k) p b m) (suc k) k (s .0) b (begins b m st) (alive (suc k)) (s .1 st (begins-framed l p cs n b m st (length st) (c .0) (c .1) g refl)) (omega arith) h)
+
 made-right : (l : Limits) (t : Text) → turned l t ≡ 0 → Right-answer l t (made t)
 unfolding Right-answer made turned
 made-right l (garbled n) e = absurd (omega arith)
@@ -104,4 +110,4 @@ answers can l t can-is = on (cases-bool (eqb (turned l t) 0))
 
 -- all of it, for any set of forms
 pub promised : (can : ℕ → Bool) → Promised can compiler
-promised can = (answers can, same-as-source can, stack-is-hidden can)
+promised can = (answers can, same-as-source can, ends-only-so can, stack-is-hidden can)
