@@ -1,0 +1,5 @@
+pub mod Capped
+pub mod Passes
+pub mod Ranges
+pub mod Scopes
+pub mod Depths

@@ -1,0 +1,12 @@
+use Prim.Native.Nat.{ℕ, _-_, _≤_}
+use mathlib.Core.Path.{_≡_}
+use lib.ListN.{length}
+use Rattle.refusals.proofs.Depths.{Pass}
+use Rattle.refusals.proofs.depth.shallow.Given as given
+
+abbrev pub Inv-loop-i : given.InvT-loop-i
+Inv-loop-i l =
+    (l .i ≤ length (l .text)) × (length (l .exprs) ≡ 32) × (length (l .blocks) ≡ 32) × (l .nest .exprs ≤ 32) × (l .nest .blocks ≤ 32) × Pass (l .text) (l .i) (l .exprs) (l .blocks) (l .nest)
+
+abbrev pub μ-loop-i : given.MeasureT-loop-i
+μ-loop-i l = length (l .text) - l .i

@@ -1,0 +1,172 @@
+// Depth, with a counter for each level.
+ghost use Prim.Native.Nat.{_<_, _≤_};
+ghost use Rattle.refusals.specs.Depth.{done, ended, levels, Opened, Opened-expr, Opened-block, Stepped, Is-deep};
+ghost use lib.ListN.{length};
+ghost use mathlib.Core.Path.{_≡_};
+use format::lexer::next;
+use format::token::Token;
+
+// How many levels of expressions and of blocks are open, and how many lists are still to end.
+#[derive(Clone, Copy)]
+pub struct Nest {
+    pub exprs: usize,
+    pub blocks: usize,
+    pub lists: u8,
+}
+
+// One more part is there: which levels are still open.
+fn settle(counts: &mut [u8], depth: usize) -> usize
+    requires { ⌜ depth ≤ length (now counts) ⌝ }
+    ensures levels { λ r. ⌜ levels (now (counts .exit)) r ≡ done (levels (now (counts .entry)) depth) ⌝ }
+    ensures within { λ r. ⌜ r ≤ depth ⌝ }
+{
+    let mut d = depth;
+    while d > 0 {
+        if counts[d - 1] > 1 {
+            counts[d - 1] -= 1;
+            return d;
+        }
+        d -= 1;
+    }
+    0
+}
+
+// One more block is at its end.
+fn close(counts: &mut [u8], depth: usize) -> usize
+    requires { ⌜ depth ≤ length (now counts) ⌝ }
+    ensures levels { λ r. ⌜ levels (now (counts .exit)) r ≡ ended (levels (now (counts .entry)) depth) ⌝ }
+    ensures within { λ r. ⌜ r ≤ depth ⌝ }
+{
+    if depth == 0 {
+        return 0;
+    }
+    if counts[depth - 1] > 1 {
+        counts[depth - 1] -= 1;
+        return depth;
+    }
+    depth - 1
+}
+
+// One more level, of so many parts, unless there are 32.
+fn open(counts: &mut [u8], depth: usize, parts: u8) -> Option<usize>
+    requires { ⌜ length (now counts) ≡ 32 ⌝ }
+    ensures { λ r. ⌜ Opened (now (counts .entry)) depth parts (now (counts .exit)) r ⌝ }
+{
+    if depth >= 32 {
+        return None;
+    }
+    counts[depth] = parts;
+    Some(depth + 1)
+}
+
+fn open_expr(counts: &mut [u8], n: Nest, parts: u8) -> Option<Nest>
+    requires { ⌜ length (now counts) ≡ 32 ⌝ }
+    ensures { λ r. ⌜ Opened-expr (now (counts .entry)) n parts (now (counts .exit)) r ⌝ }
+{
+    let Some(exprs) = open(counts, n.exprs, parts) else {
+        return None;
+    };
+    Some(Nest {
+        exprs,
+        blocks: n.blocks,
+        lists: n.lists,
+    })
+}
+
+fn open_block(counts: &mut [u8], n: Nest, parts: u8) -> Option<Nest>
+    requires { ⌜ length (now counts) ≡ 32 ⌝ }
+    ensures { λ r. ⌜ Opened-block (now (counts .entry)) n parts (now (counts .exit)) r ⌝ }
+{
+    let Some(blocks) = open(counts, n.blocks, parts) else {
+        return None;
+    };
+    Some(Nest {
+        exprs: n.exprs,
+        blocks,
+        lists: n.lists,
+    })
+}
+
+// One token more, unless it goes too deep.
+fn step(exprs: &mut [u8], blocks: &mut [u8], n: Nest, t: Token) -> Option<Nest>
+    requires { ⌜ (length (now exprs) ≡ 32) × (length (now blocks) ≡ 32) × (n .exprs ≤ 32) × (n .blocks ≤ 32) ⌝ }
+    ensures { λ r. ⌜ Stepped (now (exprs .entry)) (now (blocks .entry)) n t (now (exprs .exit)) (now (blocks .exit)) r ⌝ }
+{
+    match t {
+        Token::End => {
+            if n.lists > 0 {
+                return Some(Nest {
+                    exprs: n.exprs,
+                    blocks: n.blocks,
+                    lists: n.lists - 1,
+                });
+            }
+            let b = close(blocks, n.blocks);
+            Some(Nest {
+                exprs: n.exprs,
+                blocks: b,
+                lists: 0,
+            })
+        }
+        Token::Word(_) => {
+            let e = settle(exprs, n.exprs);
+            Some(Nest {
+                exprs: e,
+                blocks: n.blocks,
+                lists: n.lists,
+            })
+        }
+        Token::Var(_) => {
+            let e = settle(exprs, n.exprs);
+            Some(Nest {
+                exprs: e,
+                blocks: n.blocks,
+                lists: n.lists,
+            })
+        }
+        Token::Load(_) => open_expr(exprs, n, 1),
+        Token::Operator(_) => open_expr(exprs, n, 2),
+        Token::Choice => open_expr(exprs, n, 3),
+        Token::If => open_block(blocks, n, 2),
+        Token::While => open_block(blocks, n, 1),
+        Token::Call(_) => Some(Nest {
+            exprs: n.exprs,
+            blocks: n.blocks,
+            lists: 2,
+        }),
+        Token::Function(_, _) => Some(Nest {
+            exprs: n.exprs,
+            blocks: n.blocks,
+            lists: 1,
+        }),
+        Token::Set(_) => Some(n),
+        Token::Store(_) => Some(n),
+        Token::From(_, _) => Some(n),
+        Token::To(_) => Some(n),
+    }
+}
+
+// Whether the program that the text is goes at most 32 levels deep.
+pub fn shallow(text: &[u8]) -> bool
+    ensures { λ r. ⌜ Is-deep (now (text .entry)) r ⌝ }
+{
+    let mut exprs = [0u8; 32];
+    let mut blocks = [0u8; 32];
+    let mut nest = Nest {
+        exprs: 0,
+        blocks: 0,
+        lists: 0,
+    };
+    let mut i = 0;
+    while i < text.len() {
+        let Some(n) = next(text, i) else {
+            return true;
+        };
+        let Some(m) = step(&mut exprs, &mut blocks, nest, n.token) else {
+            return false;
+        };
+        nest = m;
+        i = n.end;
+    }
+    true
+}

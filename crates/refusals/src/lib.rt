@@ -1,0 +1,5 @@
+// The list of refusals: every text is refused by the first reason that applies, and by nothing else.
+pub mod depth;
+pub mod range;
+pub mod refusal;
+pub mod scope;
