@@ -3,3 +3,5 @@ pub mod Passes
 pub mod Ranges
 pub mod Scopes
 pub mod Depths
+pub mod Eventful
+pub mod Callees

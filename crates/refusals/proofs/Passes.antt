@@ -41,11 +41,13 @@ pub none-left : (bs : List ℕ) (us : List Token) → lex bs ≡ None → Lexes 
 none-left bs [] e l = refl
 none-left bs (u ∷ us) e l = absurd (never (lex bs) (u, l .0) e (l .1))
 
-pub one-more : (A : Type 0) (text : List ℕ) (i : ℕ) (n : Next) (f h g : List Token → A) → Nexts text i (Some n) → ((ts : List Token) → f (n .token ∷ ts) ≡ h ts) → Remains A text i f g → Remains A text (n .end) h g
-one-more A text i n f h g e s d ts l =
-    let a : Left A text i f g ts = d ts l in
+pub left-more : (A : Type 0) (text : List ℕ) (i : ℕ) (n : Next) (f h g : List Token → A) (ts : List Token) → Nexts text i (Some n) → ((us : List Token) → f (n .token ∷ us) ≡ h us) → Left A text i f g ts → Left A text (n .end) h g ts
+left-more A text i n f h g ts e s a =
     let b : (vs : List Token) × Lexes (drop (n .end) text) vs × (a .tokens-left ≡ n .token ∷ vs) = front text i n (a .tokens-left) e (a .stand) in
     record { tokens-left = b .0; stand = b .1; make = sym (s (b .0)) ∙ ap f (sym (b .2)) ∙ a .make }
+
+pub one-more : (A : Type 0) (text : List ℕ) (i : ℕ) (n : Next) (f h g : List Token → A) → Nexts text i (Some n) → ((ts : List Token) → f (n .token ∷ ts) ≡ h ts) → Remains A text i f g → Remains A text (n .end) h g
+one-more A text i n f h g e s d ts l = left-more A text i n f h g ts e s (d ts l)
 
 -- of a program's tokens: it is decided by a token
 pub decided : (A : Type 0) (text : List ℕ) (i : ℕ) (n : Next) (f g : List Token → A) (x : A) (p : Program) → ((j : ℕ) → getD text j 0 < 256) → read text ≡ program p → Nexts text i (Some n) → ((ts : List Token) → f (n .token ∷ ts) ≡ x) →

@@ -1,3 +1,4 @@
 pub mod Answer
 pub mod Tests
 pub mod Depth
+pub mod Events

@@ -1,5 +1,7 @@
 // The list of refusals: every text is refused by the first reason that applies, and by nothing else.
+pub mod calls;
 pub mod depth;
+pub mod event;
 pub mod range;
 pub mod refusal;
 pub mod scope;
