@@ -5,3 +5,4 @@ pub mod Scopes
 pub mod Depths
 pub mod Eventful
 pub mod Callees
+pub mod Arities

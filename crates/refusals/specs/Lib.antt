@@ -2,3 +2,4 @@ pub mod Answer
 pub mod Tests
 pub mod Depth
 pub mod Events
+pub mod Arity

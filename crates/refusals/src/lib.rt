@@ -1,4 +1,5 @@
 // The list of refusals: every text is refused by the first reason that applies, and by nothing else.
+pub mod arity;
 pub mod calls;
 pub mod depth;
 pub mod event;
