@@ -6,3 +6,4 @@ pub mod Depths
 pub mod Eventful
 pub mod Callees
 pub mod Arities
+pub mod Reasons
