@@ -1,3 +1,4 @@
+-- In the order in which one reads them.
 pub mod Frame
 pub mod Expressions
 pub mod Commands

@@ -7,9 +7,9 @@ use Prim.Native.Nat.{ℕ, suc, _+_, _*_, _-_, _%_, _≤_, _<_}
 use native.Mathlib.Omega.{arith}
 use lib.Dec.{leb, eqb}
 use lib.ListN.{length, length-append}
-use borrow.Author.Tests.{lt-ltb, eq-eqb, eqb-true, leb-true, eqb-false}
+use borrow.Author.Tests.{eq-eqb, eqb-true, leb-true, eqb-false}
 use Rattle.std.proofs.shelf.Tests.{and-parts, and-from, cases-bool}
-use Rattle.model.specs.Words.{pick, whole, plus, signed, two-to, nth, bytes-put, Act, came-in, went-out}
+use Rattle.model.specs.Words.{pick, whole, plus, signed, nth, bytes-put, Act, came-in, went-out}
 use Rattle.model.specs.Source.{Expr, set, store, if-then, while, from-door, to-door, Cmds, more, World, State, Out, stuck, run, then, value, inside, with-var, with-memory, with-act, came}
 use Rattle.model.specs.Machine.{Board, Cpu, reg, put, loads, stores, at-pc, doors, at-door, with-act as with-act-m, came as came-m}
 use Rattle.model.specs.Promise.{good-size}
@@ -29,7 +29,7 @@ use Rattle.model.proofs.Accepted.{Checked-e, Checked-cs, checked-set, checked-s
 use Rattle.correctness.proofs.Plans.{silent, quiet, Reach, stay, and-so, and-then}
 use Rattle.correctness.proofs.CodeInPlace.{At, at-within, at-tail, at-split}
 use Rattle.correctness.proofs.StackBytes.{slot, same-slot, in-range, above, with-memory-m, stores-memory}
-use Rattle.correctness.proofs.Frames.{Has-frame, Advanced, advanced, advanced-then, reg-is, puts-register, exec-load-slot, stores-slot}
+use Rattle.correctness.proofs.Frames.{Has-frame, Advanced, advanced, advanced-then, reg-is, immediate-is, puts-register, exec-load-slot, stores-slot}
 use Rattle.correctness.proofs.Jumps.{jumps-on, jumps-back, skips, falls}
 use Rattle.correctness.proofs.Expressions.{by-size, exec-lui, run-expression}
 use Rattle.correctness.proofs.Simulation.{reach-then, move-then, then-plan, run-then}
@@ -165,15 +165,12 @@ store-size-is n h = by-size (λ m. store-size (store-of m) ≡ m) refl refl refl
 
 exec-store : {b : Board} {q slots : ℕ} {c : Cpu} → Has-frame b q slots c → (n a v : ℕ) → good-size n ≡ true → nth 0 (c .regs) 6 ≡ a → nth 0 (c .regs) 5 ≡ v → b .base ≤ a → a + n ≤ b .base + length (c .memory) →
     exec b c (Store (store-of n) 5 6 0) ≡ with-memory-m (bytes-put (c .memory) (a - b .base) n v) c
-unfolding exec two-to
+unfolding exec
 exec-store {b} {q} {slots} {c} g n a v h x y l u =
     (λ i. stores b c (there i) (store-size-is n h i) ((reg-is c 5 (omega arith) ∙ y) i)) ∙ stores-memory b c (a - b .base) n v (omega arith)
   where
-    imm : signed 12 0 ≡ 0
-    imm = pick-true _ _ _ (lt-ltb 0 2048 (omega arith))
-
     there : plus (reg c 6) (signed 12 0) ≡ b .base + (a - b .base)
-    there = (λ i. plus ((reg-is c 6 (omega arith) ∙ x) i) (imm i)) ∙ small a (subst (λ z. z < whole) x (register-word c 6 (g .fine))) l
+    there = (λ i. plus ((reg-is c 6 (omega arith) ∙ x) i) (immediate-is 0 (omega arith) i)) ∙ small a (subst (λ z. z < whole) x (register-word c 6 (g .fine))) l
       where
         small : (z : ℕ) → z < whole → b .base ≤ z → plus z 0 ≡ b .base + (z - b .base)
         small z p r = omega arith
@@ -235,8 +232,7 @@ abbrev door-in : Board → Cpu → ℕ → ℕ
 door-in b c d = b .input (came-m (c .acts)) d % whole
 
 door-address : (x d : ℕ) → x ≡ 1073741824 → d < 256 → plus x (signed 12 (4 * d)) ≡ doors + 4 * d
-unfolding two-to
-door-address x d e h = ap (plus x) (pick-true _ _ _ (lt-ltb (4 * d) 2048 (omega arith))) ∙ omega arith
+door-address x d e h = ap (plus x) (immediate-is (4 * d) (omega arith)) ∙ omega arith
 
 is-door : (d : ℕ) → d < 256 → at-door (doors + 4 * d) 4 ≡ true
 is-door d h = and-from _ _ (eq-eqb ((doors + 4 * d) % 4) 0 (omega arith)) (in-range doors 1024 (doors + 4 * d) 4 (omega arith) (omega arith))

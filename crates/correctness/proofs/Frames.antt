@@ -91,6 +91,11 @@ one-quiet q slots k i is {Q} x g pc at e a f = one q slots k i is [] g pc at (ap
 pub reg-is : (c : Cpu) (r : ℕ) → 0 < r → reg c r ≡ nth 0 (c .regs) r
 reg-is c r h = pick-false _ _ _ (ne-eqb r 0 (λ e. omega arith))
 
+-- an immediate of 12 bits without a sign
+pub immediate-is : (n : ℕ) → n < 2048 → signed 12 n ≡ n
+unfolding two-to
+immediate-is n h = pick-true _ _ _ (lt-ltb n 2048 h)
+
 -- an instruction that puts a word into a register other than 2
 pub puts-register : {b : Board} {c d : Cpu} {q slots lo k : ℕ} (i : Instruction) (is : List Instruction) (r v : ℕ) → Advanced b q slots lo c k d → At (b .code) k (i ∷ is) → r ≢ 2 → exec b d i ≡ put r v d →
     Reach quiet b d (λ e. Advanced b q slots lo c (suc k) e × (e .regs ≡ set-at (d .regs) r v) × (e .stack ≡ d .stack))
@@ -106,13 +111,9 @@ puts-value {d = d} i is v j p n at e =
     record { at = advanced-at p (h .0); x5 = ap (λ l. nth 0 l 5) (h .1) ∙ nth-set-same 0 (d .regs) 5 v (omega (arith, registers-32 d (n .good .fine))) })
 
 -- addresses in the frame
-imm-slot : (j : ℕ) → j < 512 → signed 12 (4 * j) ≡ 4 * j
-unfolding two-to
-imm-slot j h = pick-true _ _ _ (lt-ltb (4 * j) 2048 (omega arith))
-
 address : {b : Board} {q slots : ℕ} {c : Cpu} → Has-frame b q slots c → (j : ℕ) → j < slots → plus (reg c 2) (signed 12 (4 * j)) ≡ b .stack-base + (q + 4 * j)
 unfolding pick
-address {b} {q} {slots} {c} g j h = ap (plus (nth 0 (c .regs) 2)) (imm-slot j (omega (arith, g .few))) ∙ omega (arith, g .sp, g .room, g .top)
+address {b} {q} {slots} {c} g j h = ap (plus (nth 0 (c .regs) 2)) (immediate-is (4 * j) (omega (arith, g .few))) ∙ omega (arith, g .sp, g .room, g .top)
 
 pub exec-load-slot : {b : Board} {q slots : ℕ} {c : Cpu} → Has-frame b q slots c → (r j : ℕ) → j < slots → exec b c (load-slot r j) ≡ put r (slot (c .stack) q j) c
 unfolding exec load-size extended

@@ -31,7 +31,7 @@ use Rattle.model.proofs.Accepted.{Checked-f}
 use Rattle.correctness.proofs.Plans.{Plan, silent, quiet, quiets, Reach, stay, and-so, and-then}
 use Rattle.correctness.proofs.CodeInPlace.{At, at-within, at-tail, at-split}
 use Rattle.correctness.proofs.StackBytes.{Same, same-then, same-wide, slot, same-slot, with-stack, stores-stack}
-use Rattle.correctness.proofs.Frames.{Has-frame, frame-at, frame-kept, frame-less, Advanced, advanced, advanced-at, Represents, one-quiet, reg-is, puts-register, exec-load-slot, Stored, puts-slot, stores-slot}
+use Rattle.correctness.proofs.Frames.{Has-frame, frame-at, frame-kept, frame-less, Advanced, advanced, advanced-at, Represents, one-quiet, reg-is, immediate-is, puts-register, exec-load-slot, Stored, puts-slot, stores-slot}
 use Rattle.correctness.proofs.Jumps.{jumps-on, jumps-back, branch-taken, branch-passed}
 use Rattle.correctness.proofs.Simulation.{Follows-run, reach-then, run-then-reach}
 use Rattle.correctness.proofs.Matching.{Matches, matches-at, matches-set, Env, runs-in, Commands-run}
@@ -108,26 +108,22 @@ stores-registers {b} {q} {vars} {st0} (x ∷ xs) (v ∷ vs) r k s c r0 l hx h at
 
 -- 0 to a slot, through register 5
 exec-zero : {b : Board} {q slots : ℕ} {c : Cpu} → Has-frame b q slots c → (j : ℕ) → j < slots → nth 0 (c .regs) 5 ≡ b .stack-base + (q + 4 * j) → exec b c (Store Sw 0 5 0) ≡ with-stack (bytes-put (c .stack) (q + 4 * j) 4 0) c
-unfolding exec store-size two-to
+unfolding exec store-size
 exec-zero {b} {q} {slots} {c} g j h e = (λ i. stores b c (there i) 4 (nil i)) ∙ stores-stack b c (q + 4 * j) 4 0 (g .apart) (omega arith) (omega (arith, g .room))
   where
     nil : reg c 0 ≡ 0
     nil = pick-true _ _ _ (eq-eqb 0 0 refl)
 
-    imm : signed 12 0 ≡ 0
-    imm = pick-true _ _ _ (lt-ltb 0 2048 (omega arith))
-
     there : plus (reg c 5) (signed 12 0) ≡ b .stack-base + (q + 4 * j)
-    there = (λ i. plus ((reg-is c 5 (omega arith) ∙ e) i) (imm i)) ∙ small (b .stack-base + (q + 4 * j)) (omega (arith, g .room, g .top))
+    there = (λ i. plus ((reg-is c 5 (omega arith) ∙ e) i) (immediate-is 0 (omega arith) i)) ∙ small (b .stack-base + (q + 4 * j)) (omega (arith, g .room, g .top))
       where
         small : (z : ℕ) → z < whole → plus z 0 ≡ z
         small z p = omega arith
 
 exec-add : (b : Board) (c : Cpu) (r1 r2 n x : ℕ) → 0 < r2 → n < 2048 → nth 0 (c .regs) r2 ≡ x → x + n < whole → exec b c (Immediate Addi r1 r2 n) ≡ put r1 (x + n) c
-unfolding exec two-to with-immediate
+unfolding exec with-immediate
 exec-add b c r1 r2 n x r0 h e l =
-    let imm : signed 12 n ≡ n = pick-true _ _ _ (lt-ltb n 2048 h) in
-    ap (λ z. put r1 z c) ((λ i. plus ((reg-is c r2 r0 ∙ e) i) (imm i)) ∙ omega arith)
+    ap (λ z. put r1 z c) ((λ i. plus ((reg-is c r2 r0 ∙ e) i) (immediate-is n h i)) ∙ omega arith)
 
 -- the loop that zeroes the variables: register 5 goes up to register 6
 abbrev Zero-loop : List Instruction
@@ -244,19 +240,19 @@ exec-down {b} {c} {top} q n g p h e =
 -- back to where it was called from
 returns : {b : Board} {c : Cpu} {q slots : ℕ} (k : ℕ) (is : List Instruction) (ra : ℕ) → Has-frame b q slots c → c .pc ≡ 4 * k → At (b .code) k (Jalr 0 1 0 ∷ is) → nth 0 (c .regs) 1 ≡ ra → ra % 4 ≡ 0 →
     Reach quiet b c (λ d. Has-frame b q slots d × (d .pc ≡ ra) × ((y : ℕ) → 0 < y → nth 0 (d .regs) y ≡ nth 0 (c .regs) y) × (d .memory ≡ c .memory) × (d .acts ≡ c .acts) × (d .stack ≡ c .stack))
-unfolding At exec two-to
+unfolding At exec
 returns {b} {c} {q} {slots} k is ra g pc at e f =
     one-quiet q slots k (Jalr 0 1 0) is (at-pc ra (put 0 (plus (c .pc) 4) c)) g pc at there refl
     (λ h. (frame-kept g refl h (nth-set-other 0 (c .regs) 0 2 _ (λ w. omega arith)) refl refl, refl, (λ y z. nth-set-other 0 (c .regs) 0 y _ (λ w. omega arith)), refl, refl, refl))
   where
-    imm : signed 12 0 ≡ 0
-    imm = pick-true _ _ _ (lt-ltb 0 2048 (omega arith))
-
     to : (z : ℕ) → z < whole → z % 4 ≡ 0 → plus z 0 - plus z 0 % 2 ≡ z
     to z p r = let w : plus z 0 ≡ z = omega arith in ap (λ y. y - y % 2) w ∙ omega arith
 
+    at-ra : plus (reg c 1) (signed 12 0) ≡ plus ra 0
+    at-ra = λ i. plus ((reg-is c 1 (omega arith) ∙ e) i) (immediate-is 0 (omega arith) i)
+
     there : exec b c (Jalr 0 1 0) ≡ at-pc ra (put 0 (plus (c .pc) 4) c)
-    there = (λ i. link c 0 (plus ((reg-is c 1 (omega arith) ∙ e) i) (imm i) - plus ((reg-is c 1 (omega arith) ∙ e) i) (imm i) % 2))
+    there = ap (λ a. link c 0 (a - a % 2)) at-ra
         ∙ ap (link c 0) (to ra (subst (λ z. z < whole) e (register-word c 1 (g .fine))) f) ∙ pick-true _ _ _ (eq-eqb (ra % 4) 0 f)
 
 -- a function is entered at the word k, and left

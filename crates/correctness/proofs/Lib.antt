@@ -1,3 +1,4 @@
+-- In the order in which one reads them; each file ends with its theorem.
 pub mod Plans
 pub mod CodeInPlace
 pub mod StackBytes
