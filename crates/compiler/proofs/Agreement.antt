@@ -21,6 +21,7 @@ use Rattle.correctness.proofs.Sizes.{f-same}
 module _ (at to : ℕ → ℕ) (n : ℕ) (same : (g : ℕ) → g < n → at g ≡ to g) where
   mutual
     unfolding code-c code-cs after-c after-cs
+
     same-c : (k v : ℕ) (c : Cmd) → after-c k n c ≡ true → code-c at v c ≡ code-c to v c
     same-c k v (set x e) h = refl
     same-c k v (store m d e) h = refl

@@ -41,6 +41,7 @@ few-passed l p g a r h lt q =
 
 mutual
   unfolding deep-c deep-cs
+
   valid-c : (l : Limits) (p : Program) (i v k : ℕ) (c : Cmd) → Accepted l p → v ≤ 256 → Checked-c l p i v c → deep-c c k ≡ true → Valid-c k c
   valid-c l p i v k (set x e) a few h d = let c = checked-set h in (omega (arith, c .0), valid-e v 32 e few (c .1))
   valid-c l p i v k (store n x e) a few h d = let c = checked-store h in (c .0, valid-e v 32 x few (c .1), valid-e v 32 e few (c .2))
@@ -75,9 +76,10 @@ unfolding all-deep function-at
 valid-fs l p [] i a h d = tt
 valid-fs l p (f ∷ fs) i a h d =
     let c : Checked-f l p (i + 0) f = h 0 f [] refl in
-    let m : (deep-cs (f .body) 32 ≡ true) × (all-deep fs ≡ true) = and-parts _ _ d in
-    ((c .few-args, c .few-vars, c .few-results, valid-v (f .variables) (f .results) (c .few-vars) (c .results-in), valid-cs l p (i + 0) (f .variables) 32 (f .body) a (c .few-vars) (c .commands) (m .0)),
-        valid-fs l p fs (suc i) a (λ g g' hs e. subst (λ (j : ℕ). Checked-f l p j g') (omega arith) (h (suc g) g' hs e)) (m .1))
+    let m : (deep-cs (f .body) 32 ≡ true) × (all-deep fs ≡ true) = and-parts _ _ d in (
+      (c .few-args, c .few-vars, c .few-results, valid-v (f .variables) (f .results) (c .few-vars) (c .results-in), valid-cs l p (i + 0) (f .variables) 32 (f .body) a (c .few-vars) (c .commands) (m .0)),
+      valid-fs l p fs (suc i) a (λ g g' hs e. subst (λ (j : ℕ). Checked-f l p j g') (omega arith) (h (suc g) g' hs e)) (m .1),
+    )
 
 pub valid : (l : Limits) (p : Program) → Accepted l p → Valid-p p
 valid l p a = valid-fs l p p 0 a (λ g f fs e. subst (λ (j : ℕ). Checked-f l p j f) (omega arith) (checked-function l p a g f fs e)) (a .deep)

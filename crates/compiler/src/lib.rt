@@ -1,1 +1,51 @@
-// x
+// The compiler: from the bytes of a program to words of code, in memory that is lent.
+pub mod answer;
+
+ghost use Rattle.codegen.specs.Program.{compiler};
+ghost use Rattle.compiler.specs.Contract.{Answered, Generated};
+ghost use Rattle.correctness.specs.Promised.{Promised};
+ghost use Rattle.format.specs.Format.{format};
+ghost use Rattle.model.specs.Promise.{all, Reads-back};
+use answer::Answer;
+use codegen::functions::emit;
+use codegen::functions::lay_out;
+use refusals::check;
+use refusals::refusal::Stage;
+
+// The code of a program that isn't refused: its length is known before any of it is written.
+fn generate(text: &[u8], code: &mut [u32]) -> Answer
+    ensures { λ r. ⌜ Generated (now (text .entry)) (now (code .entry)) (now (code .exit)) r ⌝ }
+{
+    let mut starts = [0u32; 256];
+    let layout = lay_out(text, &mut starts);
+    if layout.words > code.len() {
+        return Answer::NoRoom(layout.words);
+    }
+    emit(text, code, &starts);
+    Answer::Compiled(layout.stack, layout.words)
+}
+
+// The code of the program that the text is, or why there is none.
+//
+// answered: the answer is what the promised compiler makes of what the text is read as; nothing but the code is written,
+// and nothing at all unless it is compiled.
+// promised: that compiler refuses what has to be refused and nothing else, its code does what the program does, and
+// what the stack held at first is never seen.
+// read: every program has bytes, and reading them gives it back.
+pub fn compile(text: &[u8], code: &mut [u32]) -> Answer
+    ensures answered { λ r. ⌜ Answered (now (text .entry)) (now (code .entry)) (now (code .exit)) r ⌝ }
+    ensures promised { λ _. ⌜ Promised all compiler ⌝ }
+    ensures read { λ _. ⌜ Reads-back format ⌝ }
+{
+    match check(
+        text,
+        Stage {
+            loops: true,
+            calls: true,
+            doors: true,
+        },
+    ) {
+        Err(r) => Answer::Refused(r),
+        Ok(_) => generate(text, code),
+    }
+}

@@ -2,7 +2,6 @@
 ghost use Prim.Native.Nat.{_<_};
 ghost use Rattle.yongidra.specs.Listing.{digit-of, line-of};
 ghost use mathlib.Core.Path.{_≡_};
-
 use std::alloc::AllocError;
 use std::alloc::Global;
 
