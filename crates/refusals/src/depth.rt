@@ -88,9 +88,9 @@ fn open_block(counts: &mut [u8], n: Nest, parts: u8) -> Option<Nest>
 }
 
 // One token more, unless it goes too deep.
-fn step(exprs: &mut [u8], blocks: &mut [u8], n: Nest, t: Token) -> Option<Nest>
-    requires { ⌜ (length (now exprs) ≡ 32) × (length (now blocks) ≡ 32) × (n .exprs ≤ 32) × (n .blocks ≤ 32) ⌝ }
-    ensures { λ r. ⌜ Stepped (now (exprs .entry)) (now (blocks .entry)) n t (now (exprs .exit)) (now (blocks .exit)) r ⌝ }
+fn step(expr_counts: &mut [u8], block_counts: &mut [u8], n: Nest, t: Token) -> Option<Nest>
+    requires { ⌜ (length (now «expr_counts») ≡ 32) × (length (now «block_counts») ≡ 32) × (n .exprs ≤ 32) × (n .blocks ≤ 32) ⌝ }
+    ensures { λ r. ⌜ Stepped (now («expr_counts» .entry)) (now («block_counts» .entry)) n t (now («expr_counts» .exit)) (now («block_counts» .exit)) r ⌝ }
 {
     match t {
         Token::End => {
@@ -101,7 +101,7 @@ fn step(exprs: &mut [u8], blocks: &mut [u8], n: Nest, t: Token) -> Option<Nest>
                     lists: n.lists - 1,
                 });
             }
-            let b = close(blocks, n.blocks);
+            let b = close(block_counts, n.blocks);
             Some(Nest {
                 exprs: n.exprs,
                 blocks: b,
@@ -109,7 +109,7 @@ fn step(exprs: &mut [u8], blocks: &mut [u8], n: Nest, t: Token) -> Option<Nest>
             })
         }
         Token::Word(_) => {
-            let e = settle(exprs, n.exprs);
+            let e = settle(expr_counts, n.exprs);
             Some(Nest {
                 exprs: e,
                 blocks: n.blocks,
@@ -117,18 +117,18 @@ fn step(exprs: &mut [u8], blocks: &mut [u8], n: Nest, t: Token) -> Option<Nest>
             })
         }
         Token::Var(_) => {
-            let e = settle(exprs, n.exprs);
+            let e = settle(expr_counts, n.exprs);
             Some(Nest {
                 exprs: e,
                 blocks: n.blocks,
                 lists: n.lists,
             })
         }
-        Token::Load(_) => open_expr(exprs, n, 1),
-        Token::Operator(_) => open_expr(exprs, n, 2),
-        Token::Choice => open_expr(exprs, n, 3),
-        Token::If => open_block(blocks, n, 2),
-        Token::While => open_block(blocks, n, 1),
+        Token::Load(_) => open_expr(expr_counts, n, 1),
+        Token::Operator(_) => open_expr(expr_counts, n, 2),
+        Token::Choice => open_expr(expr_counts, n, 3),
+        Token::If => open_block(block_counts, n, 2),
+        Token::While => open_block(block_counts, n, 1),
         Token::Call(_) => Some(Nest {
             exprs: n.exprs,
             blocks: n.blocks,
@@ -150,8 +150,8 @@ fn step(exprs: &mut [u8], blocks: &mut [u8], n: Nest, t: Token) -> Option<Nest>
 pub fn shallow(text: &[u8]) -> bool
     ensures { λ r. ⌜ Is-deep (now (text .entry)) r ⌝ }
 {
-    let mut exprs = [0u8; 32];
-    let mut blocks = [0u8; 32];
+    let mut expr_counts = [0u8; 32];
+    let mut block_counts = [0u8; 32];
     let mut nest = Nest {
         exprs: 0,
         blocks: 0,
@@ -162,7 +162,7 @@ pub fn shallow(text: &[u8]) -> bool
         let Some(n) = next(text, i) else {
             return true;
         };
-        let Some(m) = step(&mut exprs, &mut blocks, nest, n.token) else {
+        let Some(m) = step(&mut expr_counts, &mut block_counts, nest, n.token) else {
             return false;
         };
         nest = m;
