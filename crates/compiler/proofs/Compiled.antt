@@ -16,6 +16,7 @@ use Rattle.riscv.specs.declared.instruction.Instruction.{Instruction}
 use Rattle.codegen.specs.Program.{starts, linked, words-of, code-of, stack-for, made, compile}
 use Rattle.codegen.specs.Emission.{limit, Wrote, Emitted}
 use Rattle.codegen.specs.Emits.{by-table}
+use Rattle.std.specs.declared.result.Result.the-variants.{Ok, Err}
 use Rattle.codegen.specs.declared.layout.Layout.{Layout}
 use Rattle.codegen.specs.Framed.{words-in, Lays-out, Lays, Emits-p}
 use Rattle.format.specs.Format.{bytes-p, bytes-of, read}
@@ -26,7 +27,7 @@ use Rattle.refusals.specs.declared.refusal.Refusal.the-variants.{Malformed, Ran
 use Rattle.refusals.specs.Answer.{reason, place-of}
 use Rattle.compiler.specs.declared.answer.Answer.{Answer}
 use Rattle.compiler.specs.declared.answer.Answer.the-variants.{Refused, Compiled, NoRoom}
-use Rattle.compiler.specs.Contract.{everything, promised-answer, Answered, Generated}
+use Rattle.compiler.specs.Contract.{everything, promised-answer, Answered, Generated, Stack-needed}
 use Rattle.compiler.proofs.Validity.{valid}
 use Rattle.codegen.proofs.Emitted.{words-length}
 use Rattle.correctness.proofs.Linking.{code-small}
@@ -108,3 +109,11 @@ refused-so text before r e f = (makes-refusal everything (read text) (reason r) 
 pub compiled-so : (text before after : List ℕ) (a : Answer) (p : Program) → ((i : ℕ) → getD text i 0 < 256) → turned everything (read text) ≡ 0 → read text ≡ program p → Generated text before after a →
     Answered text before after a
 compiled-so text before after a p bytes t e g = g p (one-way-to-write text p bytes e) (ap (turned everything) (sym e) ∙ t)
+
+pub stack-so : (text table : List ℕ) (layout : Layout) (p : Program) → ((i : ℕ) → getD text i 0 < 256) → turned everything (read text) ≡ 0 → read text ≡ program p → Lays text table layout →
+    Stack-needed text (Ok (layout .stack))
+stack-so text table layout p bytes t e lays =
+    let q : text ≡ bytes-of p = one-way-to-write text p bytes e in
+    let z : turned everything (program p) ≡ 0 = ap (turned everything) (sym e) ∙ t in
+    let l : Accepted everything p × Lays-out p table layout = laid text table text layout lays p q z in
+    (code-of p, promised-code text p q z ∙ ap (λ (k : ℕ). compiled (code-of p) k) (sym (l .1 .stack)))

@@ -5,7 +5,10 @@ use Prim.Native.Nat.{ℕ, _<_, _≤_}
 use lib.ListN.{length, take, drop}
 use Rattle.model.specs.Promise.{Limits, all, refused, compiled, Answer as Promised-answer, program, turned}
 use Rattle.model.specs.Source.{Program}
+use Rattle.std.specs.declared.result.Result.{Result}
+use Rattle.std.specs.declared.result.Result.the-variants.{Ok, Err}
 use Rattle.format.specs.Format.{format}
+use Rattle.refusals.specs.declared.refusal.Refusal.{Refusal}
 use Rattle.refusals.specs.Answer.{reason, place-of}
 use Rattle.codegen.specs.Program.{compiler}
 use Rattle.compiler.specs.declared.answer.Answer.{Answer}
@@ -39,3 +42,8 @@ Answered text before after (NoRoom n) = ((cs : List ℕ) × (stack : ℕ) × (pr
 -- of a program that isn't refused
 abbrev pub Generated : List ℕ → List ℕ → List ℕ → Answer → Type 0
 Generated text before after a = (p : Program) → text ≡ format .bytes-of p → turned everything (program p) ≡ 0 → Answered text before after a
+
+-- the stack of the promised code, or the promised refusal
+abbrev pub Stack-needed : List ℕ → Result ℕ Refusal → Type 0
+Stack-needed text (Ok n) = (cs : List ℕ) × (promised-answer text ≡ compiled cs n)
+Stack-needed text (Err r) = promised-answer text ≡ refused (reason r) (place-of r)

@@ -1,8 +1,10 @@
 // The compiler: from the bytes of a program to words of code, in memory that is lent.
 pub mod answer;
+pub mod export;
+pub mod numbers;
 
 ghost use Rattle.codegen.specs.Program.{compiler};
-ghost use Rattle.compiler.specs.Contract.{Answered, Generated};
+ghost use Rattle.compiler.specs.Contract.{Answered, Generated, Stack-needed};
 ghost use Rattle.correctness.specs.Promised.{Promised};
 ghost use Rattle.format.specs.Format.{format};
 ghost use Rattle.model.specs.Promise.{all, Reads-back};
@@ -10,7 +12,15 @@ use answer::Answer;
 use codegen::functions::emit;
 use codegen::functions::lay_out;
 use refusals::check;
+use refusals::refusal::Refusal;
 use refusals::refusal::Stage;
+
+// Every form: loops, calls and doors.
+const ALL: Stage = Stage {
+    loops: true,
+    calls: true,
+    doors: true,
+};
 
 // The code of a program that isn't refused: its length is known before any of it is written.
 fn generate(text: &[u8], code: &mut [u32]) -> Answer
@@ -37,15 +47,21 @@ pub fn compile(text: &[u8], code: &mut [u32]) -> Answer
     ensures promised { λ _. ⌜ Promised all compiler ⌝ }
     ensures read { λ _. ⌜ Reads-back format ⌝ }
 {
-    match check(
-        text,
-        Stage {
-            loops: true,
-            calls: true,
-            doors: true,
-        },
-    ) {
+    match check(text, ALL) {
         Err(r) => Answer::Refused(r),
         Ok(_) => generate(text, code),
+    }
+}
+
+// How many bytes of stack a program's code needs, without making the code.
+pub fn stack_needed(text: &[u8]) -> Result<u32, Refusal>
+    ensures { λ r. ⌜ Stack-needed (now (text .entry)) r ⌝ }
+{
+    match check(text, ALL) {
+        Err(r) => Err(r),
+        Ok(_) => {
+            let mut starts = [0u32; 256];
+            Ok(lay_out(text, &mut starts).stack)
+        }
     }
 }
