@@ -10,8 +10,8 @@ pub fn frame_of(arguments: u64, variables: u64) -> Frame
     ensures small { λ r. ⌜ Small r ⌝ }
 {
     Frame {
-        arguments: (arguments % 9) as u32,
-        variables: (variables % 257) as u32,
+        arguments: (arguments % 9) as u8,
+        variables: (variables % 257) as u16,
     }
 }
 
@@ -21,5 +21,5 @@ pub fn frame_bytes(frame: Frame) -> u32
     ensures value { λ r. ⌜ r ≡ 16 * ((frame .variables + 44) / 4) ⌝ }
     ensures small { λ r. ⌜ r ≤ 1200 ⌝ }
 {
-    16 * ((frame.variables + 44) / 4)
+    16 * ((frame.variables as u32 + 44) / 4)
 }

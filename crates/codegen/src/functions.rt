@@ -62,10 +62,10 @@ fn prologue(code: &mut [u32], pos: usize, frame: Frame) -> usize
     let pos = put(
         code,
         pos,
-        Instruction::Store(StoreOp::Sw, 1, 2, 4 * (frame.variables + 40)),
+        Instruction::Store(StoreOp::Sw, 1, 2, 4 * (frame.variables as u32 + 40)),
     );
-    let pos = zero(code, pos, frame.variables);
-    slots(code, pos, Transfer::Store, 8, 0, frame.arguments)
+    let pos = zero(code, pos, frame.variables as u32);
+    slots(code, pos, Transfer::Store, 8, 0, frame.arguments as u32)
 }
 
 // The frame is given back, and it goes back to the caller.
@@ -76,7 +76,7 @@ fn leave(code: &mut [u32], pos: usize, frame: Frame) -> usize
     let pos = put(
         code,
         pos,
-        Instruction::Load(LoadOp::Lw, 1, 2, 4 * (frame.variables + 40)),
+        Instruction::Load(LoadOp::Lw, 1, 2, 4 * (frame.variables as u32 + 40)),
     );
     let pos = put(
         code,
@@ -107,7 +107,7 @@ fn function(part: &[u8], code: &mut [u32], starts: &[u32], pos: usize, frame: Fr
         code,
         starts,
         Cursor { at: body.at, pos },
-        frame.variables,
+        frame.variables as u32,
         32,
     );
     let d = variables(
