@@ -150,13 +150,54 @@ def changed_bytes(rng, text):
     return bytes(out)
 
 
+def call_soup(rng):
+    """A few functions that call one another, mostly rightly."""
+    count = rng.randrange(1, 6)
+    shapes = [(0 if k == 0 and rng.random() < 0.9 else rng.choice([0, 1, 2, 8, 9]), rng.choice([0, 1, 2, 8, 9])) for k in range(count)]
+    if rng.random() < 0.7:
+        shapes = [(min(a, 8), min(r, 8)) for a, r in shapes]
+    functions = []
+    for k, (arguments, results) in enumerate(shapes):
+        body = []
+        for _ in range(rng.randrange(4)):
+            g = rng.randrange(k + 1, count) if k + 1 < count and rng.random() < 0.9 else rng.randrange(count + 1)
+            a, r = shapes[min(g, count - 1)]
+            a, r = a + rng.choice([0] * 9 + [1]), r + rng.choice([0] * 9 + [1])
+            call = ("call", g, [("word", 0)] * a, [0] * r)
+            body.append(rng.choice([call, ("if", ("word", 0), [call], []), ("while", ("word", 0), [call])]))
+        functions.append(Function(arguments, 10, [0] * results, body))
+    return functions
+
+
+def depth_soup(rng):
+    """Expressions and commands about as deep as may be."""
+    def wrap(e):
+        other = ("var", 0) if rng.random() < 0.8 else ("add", ("word", 1), ("word", 2))
+        kind = rng.randrange(4)
+        if kind == 0:
+            return ("load", 4, e)
+        if kind == 1:
+            return ("choice", *rng.sample([e, other, other], 3))
+        return (rng.choice(["add", "less"]), *rng.sample([e, other], 2))
+
+    def within(body):
+        more = rng.choice([[], [("in", 0, 0)], [("if", ("word", 0), [], [])]])
+        return more + [rng.choice([("if", ("var", 0), body, []), ("if", ("var", 0), more, body), ("while", ("var", 0), body)])]
+
+    deep = nested(("word", 0), wrap, rng.randrange(28, 35))
+    return one(nested([("set", 0, deep)], within, rng.choice([0, 1, rng.randrange(28, 35)])))
+
+
 def texts(count, seed):
     for functions in edges():
         yield program_bytes(functions)
     rng = random.Random(seed)
     for k in range(40):
         yield bytes(rng.randrange(256) for _ in range(k))
-    for _ in range(count):
+    for _ in range(count // 4):
+        yield program_bytes(call_soup(rng))
+        yield program_bytes(depth_soup(rng))
+    for _ in range(count // 2):
         functions = generate.program(rng.getrandbits(32), rng.choice([5, 20, 60, 200]), 0.1)
         for _ in range(rng.randrange(3)):
             functions = changed_number(rng, functions)
