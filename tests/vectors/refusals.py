@@ -534,7 +534,7 @@ def block_cases():
     """Calls in programs of many functions."""
     empty = b"\x30\x00\x00\x00\x00"
     pair = b"\x30\x02\x02\x02\x00\x02\x01\x00\x00"
-    for n in (256, 16382, 16383, 16384, 16385, 32767, 32768, 40000):
+    for n in (256, 65533, 65534, 65535, 65536, 131071):
         for args, results in ((2, 2), (0, 0), (2, 1), (1, 2)):
             call = command(("call", n + 1, [W] * args, [0] * results))
             ask("c", b"\x30\x00\x01\x00" + call + b"\x00", (empty, n), pair, (empty, 3), b"\x00")

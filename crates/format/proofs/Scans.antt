@@ -16,7 +16,7 @@ use Rattle.model.specs.Source.{Op, add, sub, mul, mul-high, div, rem, and, or, 
 use Rattle.model.specs.Promise.{Text, program, garbled}
 use Rattle.format.specs.Format.{Part, number, expr, exprs, vars, cmds, functions, Of, Makes, Rule, Table, find, with-more, one-more, joined, expr-rules, exprs-rules, vars-rules, cmds-rules, functions-rules, rule, by-rule, parse, read, tag-of}
 use Rattle.format.proofs.Back.{op-rule}
-use Rattle.format.specs.Scan.{copies, listed, stack-of, stack, Takes, Stops, Goes, Shapes, Ready}
+use Rattle.format.specs.Scan.{copies, listed, stack-of, stack, expected, parts, Takes, Stops, Goes, Shapes, Ready}
 use Rattle.format.specs.declared.expected.Expected.{Expected}
 use Rattle.format.specs.declared.expected.Shape.{Shape}
 use Rattle.format.specs.declared.expected.Lists.{Lists}
@@ -413,3 +413,10 @@ all-take w b e h z = record { first = functions; others = []; how = _; stands = 
 
 pub all-stop : (w : Expected) (b : ℕ) → Ready w → w .blocks ≡ 0 → (b ≡ 0 → ⊥) → (b ≡ 48 → ⊥) → Stops (stack w) b
 all-stop w b e h z y = record { first = functions; others = []; stands = at-end w e h; begins = not-functions b z y }
+
+-- what a call answered
+pub goes : (w : Expected) (b : ℕ) (s : Step) (n e : ℕ) (l : Lists) (r : ℕ) → s ≡ expected n e l r → Takes (stack w) b (stack-of n e l r) → e ≤ w .exprs + 3 → r ≤ w .blocks + 3 → Goes w b s
+goes w b s n e l r q t x y = subst (λ (u : Step). Goes w b u) (sym q) (t, x, y)
+
+pub has-shape : (b : ℕ) (o : Option Shape) (n e : ℕ) → o ≡ parts n e → Shapes b (parts n e) → Shapes b o
+has-shape b o n e q h = subst (λ (u : Option Shape). Shapes b u) (sym q) h

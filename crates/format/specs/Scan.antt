@@ -32,6 +32,12 @@ stack-of n e l r = copies n number ++ (copies e expr ++ (listed l ++ (copies r c
 abbrev pub stack : Expected → List Part
 stack w = stack-of (w .numbers) (w .exprs) (w .lists) (w .blocks)
 
+abbrev pub expected : ℕ → ℕ → Lists → ℕ → Step
+expected n e l r = Expects (record { numbers = n; exprs = e; lists = l; blocks = r })
+
+abbrev pub parts : ℕ → ℕ → Option Shape
+parts n e = Some (record { numbers = n; exprs = e })
+
 -- a byte begins the first thing that is expected, and then others are
 pub record Takes (ps : List Part) (b : ℕ) (qs : List Part) : Type 0 where
   pub first : Part

@@ -1,38 +1,43 @@
 // A flat scan: where bytes cease to be a program.
+ghost use mathlib.Core.Path.{_≡_};
 ghost use Prim.Native.Nat.{_<_, _^_};
-ghost use Rattle.format.specs.Scan.{Shapes, Goes, Ready, Scanned};
+ghost use Rattle.format.specs.Scan.{Shapes, Goes, Ready, Scanned, expected, parts};
 use crate::expected::Expected;
 use crate::expected::Lists;
 use crate::expected::Shape;
 use crate::expected::Step;
+
+// So many numbers and then expressions.
+fn following(numbers: u8, exprs: u128) -> Option<Shape>
+    ensures { λ r. ⌜ r ≡ parts numbers exprs ⌝ }
+{
+    Some(Shape { numbers, exprs })
+}
 
 // What follows the tag of an expression.
 pub fn shape(tag: u8) -> Option<Shape>
     ensures { λ r. ⌜ Shapes tag r ⌝ }
 {
     match tag {
-        1 => Some(Shape {
-            numbers: 1,
-            exprs: 0,
-        }),
-        2 => Some(Shape {
-            numbers: 1,
-            exprs: 0,
-        }),
-        3 => Some(Shape {
-            numbers: 1,
-            exprs: 1,
-        }),
-        4 => Some(Shape {
-            numbers: 0,
-            exprs: 3,
-        }),
-        16..=30 => Some(Shape {
-            numbers: 0,
-            exprs: 2,
-        }),
+        1 => following(1, 0),
+        2 => following(1, 0),
+        3 => following(1, 1),
+        4 => following(0, 3),
+        16..=30 => following(0, 2),
         _ => None,
     }
+}
+
+// The scan goes on, and this is expected.
+fn expects(numbers: u8, exprs: u128, lists: Lists, blocks: u128) -> Step
+    ensures { λ r. ⌜ r ≡ expected numbers exprs lists blocks ⌝ }
+{
+    Step::Expects(Expected {
+        numbers,
+        exprs,
+        lists,
+        blocks,
+    })
 }
 
 // A byte where a block of commands or the next function is expected.
@@ -43,64 +48,19 @@ fn in_blocks(w: Expected, b: u8) -> Step
     if w.blocks == 0 {
         return match b {
             0 => Step::Done,
-            48 => Step::Expects(Expected {
-                numbers: 2,
-                exprs: 0,
-                lists: Lists::Vars,
-                blocks: 1,
-            }),
+            48 => expects(2, 0, Lists::Vars, 1),
             _ => Step::Wrong,
         };
     }
     match b {
-        0 => Step::Expects(Expected {
-            numbers: 0,
-            exprs: 0,
-            lists: Lists::Neither,
-            blocks: w.blocks - 1,
-        }),
-        32 => Step::Expects(Expected {
-            numbers: 1,
-            exprs: 1,
-            lists: Lists::Neither,
-            blocks: w.blocks,
-        }),
-        33 => Step::Expects(Expected {
-            numbers: 1,
-            exprs: 2,
-            lists: Lists::Neither,
-            blocks: w.blocks,
-        }),
-        34 => Step::Expects(Expected {
-            numbers: 0,
-            exprs: 1,
-            lists: Lists::Neither,
-            blocks: w.blocks + 2,
-        }),
-        35 => Step::Expects(Expected {
-            numbers: 0,
-            exprs: 1,
-            lists: Lists::Neither,
-            blocks: w.blocks + 1,
-        }),
-        36 => Step::Expects(Expected {
-            numbers: 1,
-            exprs: 0,
-            lists: Lists::Exprs,
-            blocks: w.blocks,
-        }),
-        37 => Step::Expects(Expected {
-            numbers: 2,
-            exprs: 0,
-            lists: Lists::Neither,
-            blocks: w.blocks,
-        }),
-        38 => Step::Expects(Expected {
-            numbers: 1,
-            exprs: 1,
-            lists: Lists::Neither,
-            blocks: w.blocks,
-        }),
+        0 => expects(0, 0, Lists::Neither, w.blocks - 1),
+        32 => expects(1, 1, Lists::Neither, w.blocks),
+        33 => expects(1, 2, Lists::Neither, w.blocks),
+        34 => expects(0, 1, Lists::Neither, w.blocks + 2),
+        35 => expects(0, 1, Lists::Neither, w.blocks + 1),
+        36 => expects(1, 0, Lists::Exprs, w.blocks),
+        37 => expects(2, 0, Lists::Neither, w.blocks),
+        38 => expects(1, 1, Lists::Neither, w.blocks),
         _ => Step::Wrong,
     }
 }
@@ -112,12 +72,7 @@ fn after(w: Expected, b: u8) -> Step
 {
     if w.numbers > 0 {
         if b < 128 {
-            return Step::Expects(Expected {
-                numbers: w.numbers - 1,
-                exprs: w.exprs,
-                lists: w.lists,
-                blocks: w.blocks,
-            });
+            return expects(w.numbers - 1, w.exprs, w.lists, w.blocks);
         }
         return Step::Expects(w);
     }
@@ -125,46 +80,21 @@ fn after(w: Expected, b: u8) -> Step
         let Some(s) = shape(b) else {
             return Step::Wrong;
         };
-        return Step::Expects(Expected {
-            numbers: s.numbers,
-            exprs: w.exprs - 1 + s.exprs,
-            lists: w.lists,
-            blocks: w.blocks,
-        });
+        return expects(s.numbers, w.exprs - 1 + s.exprs, w.lists, w.blocks);
     }
     match w.lists {
         Lists::Exprs => {
             if b == 0 {
-                return Step::Expects(Expected {
-                    numbers: 0,
-                    exprs: 0,
-                    lists: Lists::Vars,
-                    blocks: w.blocks,
-                });
+                return expects(0, 0, Lists::Vars, w.blocks);
             }
             let Some(s) = shape(b) else {
                 return Step::Wrong;
             };
-            Step::Expects(Expected {
-                numbers: s.numbers,
-                exprs: s.exprs,
-                lists: Lists::Exprs,
-                blocks: w.blocks,
-            })
+            expects(s.numbers, s.exprs, Lists::Exprs, w.blocks)
         }
         Lists::Vars => match b {
-            0 => Step::Expects(Expected {
-                numbers: 0,
-                exprs: 0,
-                lists: Lists::Neither,
-                blocks: w.blocks,
-            }),
-            2 => Step::Expects(Expected {
-                numbers: 1,
-                exprs: 0,
-                lists: Lists::Vars,
-                blocks: w.blocks,
-            }),
+            0 => expects(0, 0, Lists::Neither, w.blocks),
+            2 => expects(1, 0, Lists::Vars, w.blocks),
             _ => Step::Wrong,
         },
         Lists::Neither => in_blocks(w, b),

@@ -1,5 +1,5 @@
 -- Depth, over the tokens of a program, and counters of levels in an array.
-use mathlib.Core.Path.{_≡_, refl, ap, _∙_, sym}
+use mathlib.Core.Path.{_≡_, refl, ap, _∙_, sym, subst}
 use mathlib.Core.Bool.{Bool, true, false, _&&_}
 use mathlib.Core.Logic.{_⊎_, _≢_, inl, inr}
 use mathlib.Core.List.{List, [], _∷_}
@@ -20,7 +20,7 @@ use Rattle.format.specs.declared.token.Token.the-variants.{End, Word, Var, Load
 use Rattle.format.specs.declared.token.Next.{Next}
 use Rattle.format.specs.Tokens.{lex, Nexts, tokens-e, tokens-es, tokens-v, tokens-c, tokens-cs, tokens-p, tokens}
 use Rattle.refusals.specs.declared.depth.Nest.{Nest}
-use Rattle.refusals.specs.Depth.{done, ended, deep-ts, levels, Opened, Opened-expr, Opened-block, Stepped, Is-deep}
+use Rattle.refusals.specs.Depth.{done, ended, deep-ts, levels, nest, Opened, Opened-expr, Opened-block, Stepped, Is-deep}
 use Rattle.refusals.proofs.Capped.{and-assoc, both, three, is-true, is-false}
 use Rattle.refusals.proofs.Passes.{Remains, one-more, decided, at-last}
 
@@ -180,6 +180,10 @@ by-if t e es rs l ts = ap (λ (u : Token). deep-ts es rs l (u ∷ ts)) e
 pub by-while : (t : Token) → t ≡ While → Opens-r 1 t
 unfolding deep-ts
 by-while t e es rs l ts = ap (λ (u : Token). deep-ts es rs l (u ∷ ts)) e
+
+-- what a call answered
+pub stepped : (es rs fs ss : List ℕ) (n : Nest) (t : Token) (o : Option Nest) (e b l : ℕ) → o ≡ nest e b l → Stepped es rs n t fs ss (nest e b l) → Stepped es rs n t fs ss o
+stepped es rs fs ss n t o e b l q h = subst (λ (x : Option Nest). Stepped es rs n t fs ss x) (sym q) h
 
 -- what was opened, as a step
 pub opens-expr : (a : ℕ) (t : Token) (xs ys rs : List ℕ) (n : Nest) (r : Option Nest) → Opens-e a t → n .blocks ≤ 32 → Opened-expr xs n a ys r → Stepped xs rs n t ys rs r

@@ -17,7 +17,7 @@ use Rattle.refusals.specs.declared.event.Event.the-variants.{Header as Headed,
 use Rattle.refusals.specs.Events.{events-p, opens-v}
 
 abbrev pub block : ℕ
-block = 16384
+block = 65536
 
 abbrev pub first-t : Token → Bool
 first-t End = false

@@ -59,6 +59,9 @@ abbrev pub levels : List ℕ → ℕ → List ℕ
 levels xs zero = []
 levels xs (suc d) = getD xs d 0 ∷ levels xs d
 
+abbrev pub nest : ℕ → ℕ → ℕ → Option Nest
+nest e b l = Some (record { exprs = e; blocks = b; lists = l })
+
 -- one more level, or no room for it
 abbrev pub Opened : List ℕ → ℕ → ℕ → List ℕ → Option ℕ → Type 0
 Opened xs d a ys None = 32 ≤ d

@@ -11,7 +11,7 @@ use format::lexer::next;
 use format::token::Token;
 
 // How many functions a table holds.
-const BLOCK: usize = 16384;
+const BLOCK: usize = 65536;
 
 // Whether a program's first token is the header of a function without arguments.
 fn first(t: Token) -> bool

@@ -20,7 +20,7 @@ fn later(functions: usize, begun: usize, e: Event) -> bool
 {
     match e {
         Event::Header(_, _) => true,
-        Event::Call(g, _, _) => begun as u64 <= g && g < functions as u64,
+        Event::Call(g, _, _) => g >= begun as u64 && g < functions as u64,
     }
 }
 

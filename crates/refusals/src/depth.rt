@@ -1,6 +1,6 @@
 // Depth, with a counter for each level.
 ghost use Prim.Native.Nat.{_<_, _≤_};
-ghost use Rattle.refusals.specs.Depth.{done, ended, levels, Opened, Opened-expr, Opened-block, Stepped, Is-deep};
+ghost use Rattle.refusals.specs.Depth.{done, ended, levels, nest, Opened, Opened-expr, Opened-block, Stepped, Is-deep};
 ghost use lib.ListN.{length};
 ghost use mathlib.Core.Path.{_≡_};
 use format::lexer::next;
@@ -59,6 +59,17 @@ fn open(counts: &mut [u8], depth: usize, parts: u8) -> Option<usize>
     Some(depth + 1)
 }
 
+// The levels after a token.
+fn nested(exprs: usize, blocks: usize, lists: u8) -> Option<Nest>
+    ensures { λ r. ⌜ r ≡ nest exprs blocks lists ⌝ }
+{
+    Some(Nest {
+        exprs,
+        blocks,
+        lists,
+    })
+}
+
 fn open_expr(counts: &mut [u8], n: Nest, parts: u8) -> Option<Nest>
     requires { ⌜ length (now counts) ≡ 32 ⌝ }
     ensures { λ r. ⌜ Opened-expr (now (counts .entry)) n parts (now (counts .exit)) r ⌝ }
@@ -66,11 +77,7 @@ fn open_expr(counts: &mut [u8], n: Nest, parts: u8) -> Option<Nest>
     let Some(exprs) = open(counts, n.exprs, parts) else {
         return None;
     };
-    Some(Nest {
-        exprs,
-        blocks: n.blocks,
-        lists: n.lists,
-    })
+    nested(exprs, n.blocks, n.lists)
 }
 
 fn open_block(counts: &mut [u8], n: Nest, parts: u8) -> Option<Nest>
@@ -80,11 +87,7 @@ fn open_block(counts: &mut [u8], n: Nest, parts: u8) -> Option<Nest>
     let Some(blocks) = open(counts, n.blocks, parts) else {
         return None;
     };
-    Some(Nest {
-        exprs: n.exprs,
-        blocks,
-        lists: n.lists,
-    })
+    nested(n.exprs, blocks, n.lists)
 }
 
 // One token more, unless it goes too deep.
@@ -95,50 +98,26 @@ fn step(expr_counts: &mut [u8], block_counts: &mut [u8], n: Nest, t: Token) -> O
     match t {
         Token::End => {
             if n.lists > 0 {
-                return Some(Nest {
-                    exprs: n.exprs,
-                    blocks: n.blocks,
-                    lists: n.lists - 1,
-                });
+                return nested(n.exprs, n.blocks, n.lists - 1);
             }
             let b = close(block_counts, n.blocks);
-            Some(Nest {
-                exprs: n.exprs,
-                blocks: b,
-                lists: 0,
-            })
+            nested(n.exprs, b, 0)
         }
         Token::Word(_) => {
             let e = settle(expr_counts, n.exprs);
-            Some(Nest {
-                exprs: e,
-                blocks: n.blocks,
-                lists: n.lists,
-            })
+            nested(e, n.blocks, n.lists)
         }
         Token::Var(_) => {
             let e = settle(expr_counts, n.exprs);
-            Some(Nest {
-                exprs: e,
-                blocks: n.blocks,
-                lists: n.lists,
-            })
+            nested(e, n.blocks, n.lists)
         }
         Token::Load(_) => open_expr(expr_counts, n, 1),
         Token::Operator(_) => open_expr(expr_counts, n, 2),
         Token::Choice => open_expr(expr_counts, n, 3),
         Token::If => open_block(block_counts, n, 2),
         Token::While => open_block(block_counts, n, 1),
-        Token::Call(_) => Some(Nest {
-            exprs: n.exprs,
-            blocks: n.blocks,
-            lists: 2,
-        }),
-        Token::Function(_, _) => Some(Nest {
-            exprs: n.exprs,
-            blocks: n.blocks,
-            lists: 1,
-        }),
+        Token::Call(_) => nested(n.exprs, n.blocks, 2),
+        Token::Function(_, _) => nested(n.exprs, n.blocks, 1),
         Token::Set(_) => Some(n),
         Token::Store(_) => Some(n),
         Token::From(_, _) => Some(n),

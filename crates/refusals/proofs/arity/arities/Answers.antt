@@ -9,7 +9,7 @@ pub returns-then-not-first-fits : need.returns-then-not-first-fits
 returns-then-not-first-fits c = no-arity (c .args .text .now) (c .args .functions) (c .first-fits .result) (c .first-fits .ensures) (c .if-not-first-fits .taken)
 
 pub loop-start-holds : need.loop-start-holds
-loop-start-holds c = (length-replicate {A = ℕ} 16384 0, length-replicate {A = ℕ} 16384 0, so-far-first (c .args .text .now) (c .args .functions))
+loop-start-holds c = (length-replicate {A = ℕ} 65536 0, length-replicate {A = ℕ} 65536 0, so-far-first (c .args .text .now) (c .args .functions))
 
 pub returns-then-not-load : need.returns-then-not-load
 returns-then-not-load c =
