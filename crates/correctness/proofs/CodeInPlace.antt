@@ -60,11 +60,6 @@ unfolding At All-fit words-of nth
 at-words [] h = omega arith
 at-words (i ∷ is) h = (refl, omega arith, h .0, at-next (encode i) (words-of is) 0 is (at-words is (h .1)))
 
-pub words-length : (is : List Instruction) → length (words-of is) ≡ length is
-unfolding words-of
-words-length [] = refl
-words-length (i ∷ is) = ap suc (words-length is)
-
 pub words-below : (is : List Instruction) → All-fit is → all-below whole (words-of is) ≡ true
 unfolding words-of all-below All-fit
 words-below [] h = refl

@@ -18,7 +18,8 @@ use Rattle.codegen.specs.Program.{starts, linked, code-of, stack-for, made, com
 use Rattle.model.proofs.Picks.{pick-true, pick-false}
 use Rattle.model.proofs.Accepted.{Accepted, accepted}
 use Rattle.correctness.proofs.Plans.{Plan}
-use Rattle.correctness.proofs.CodeInPlace.{words-length, words-below}
+use Rattle.codegen.proofs.Emitted.{words-length}
+use Rattle.correctness.proofs.CodeInPlace.{words-below}
 use Rattle.correctness.proofs.Frames.{Has-frame}
 use Rattle.correctness.proofs.Simulation.{Follows-run}
 use Rattle.correctness.proofs.Endings.{Ended, ends-so, lives, hidden, ends-only, start}
