@@ -4,6 +4,7 @@
 Run: /usr/bin/python3 tests/run_on_qemu.py target/bin/yongidra [COUNT [SEED]]
 Needs Debian's python3-unicorn. Prints one line for each program that differs, and a summary; status 1 if any did.
 """
+import collections
 import random
 import sys
 import tempfile
@@ -11,7 +12,9 @@ import tempfile
 import generate
 from compiled import compile_program
 from machine import Board
-from program import SLUICE, Run, program_bytes, program_size
+from program import Run, program_bytes, program_size
+from reader import refusal
+from refusals import edges
 
 STEPS = 3_000_000
 TIME = 4_000
@@ -93,27 +96,34 @@ def differs(source, outcome, board, end):
     return None
 
 
+def programs(count, seed):
+    """Programs at the limits, the sluice, and random ones; each with a source of chance of its own."""
+    for i, functions in enumerate(f for f in edges() if refusal(program_bytes(f)) is None):
+        yield f"edge {i}", functions, random.Random(i)
+    for i in range(count):
+        rng = random.Random(seed * 1_000_003 + i)
+        size = rng.choice([5, 20, 60, 60, 200, 200, 600, 600, 2000, 8000])
+        yield f"program {i} of seed {seed}", generate.program(rng.getrandbits(32), size, rng.choice([0.0, 0.0, 0.03])), rng
+
+
 def main():
     binary = sys.argv[1]
     count = int(sys.argv[2]) if len(sys.argv) > 2 else 300
     seed = int(sys.argv[3]) if len(sys.argv) > 3 else 1
-    outcomes, failed = {}, 0
+    outcomes, failed = collections.Counter(), 0
     with tempfile.TemporaryDirectory() as folder:
-        for i in range(count):
-            rng = random.Random(seed * 1_000_003 + i)
-            functions = SLUICE if i == 0 else generate.program(
-                rng.getrandbits(32), rng.choice([5, 20, 60, 200, 600, 2000]), rng.choice([0.0, 0.0, 0.03]))
+        for name, functions, rng in programs(count, seed):
             answer = compile_program(binary, folder, program_bytes(functions))
             if answer.words is None:
                 outcome, wrong = "refused", answer.message
             else:
                 outcome, wrong = compare(functions, answer, rng)
                 wrong = static(functions, answer) or wrong
-            outcomes[outcome] = outcomes.get(outcome, 0) + 1
+            outcomes[outcome] += 1
             if wrong:
                 failed += 1
-                print(f"program {i} of seed {seed} (size {program_size(functions)}): {wrong}")
-    print(f"{count} programs:", ", ".join(f"{n} {what}" for what, n in sorted(outcomes.items())) + f"; {failed} differ")
+                print(f"{name} (size {program_size(functions)}): {wrong}")
+    print(f"{sum(outcomes.values())} programs:", ", ".join(f"{n} {what}" for what, n in sorted(outcomes.items())) + f"; {failed} differ")
     sys.exit(failed > 0)
 
 
