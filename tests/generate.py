@@ -32,7 +32,9 @@ class Generator:
         return ("word", self.rng.getrandbits(self.rng.choice([4, 8, 12, 16, 31, 32])))
 
     def leaf(self):
-        if self.variables and self.chance(0.6):
+        if self.favored and self.chance(0.6):
+            return ("var", self.rng.choice(self.favored))
+        if self.variables and self.chance(0.2):
             return ("var", self.rng.randrange(self.variables))
         return self.word()
 
@@ -59,9 +61,6 @@ class Generator:
         """A budget for an expression: mostly small."""
         return self.rng.choice([1, 2, 3, 3, 5, 8, 13, 30])
 
-    def any_variable(self):
-        return self.rng.randrange(self.variables)
-
     def loop(self, budget, depth):
         """Mostly a loop that counts a variable of its own down."""
         if self.chance(self.wild) or not self.free:
@@ -82,7 +81,7 @@ class Generator:
 
     def targets(self):
         """Variables that may be written: not the counters of loops that are going on."""
-        return self.writable
+        return self.favored if self.favored and self.chance(0.8) else self.writable
 
     def command(self, budget, depth):
         kind = self.rng.random()
@@ -118,13 +117,18 @@ class Generator:
         self.variables = min(256, max(arguments, 1) + self.rng.choice([0, 1, 3, 8, 40, 247]) + counters)
         self.free = list(range(self.variables - counters, self.variables)) if counters + arguments <= self.variables else []
         self.writable = [x for x in range(self.variables) if x not in self.free]
-        body = self.commands(budget, 0)
+        # a few variables are used much: they begin with words that are not 0, and are seen at the end, so that a wrong word shows
+        self.favored = self.rng.sample(self.writable, min(len(self.writable), 6))
+        body = [("set", x, ("word", self.rng.getrandbits(32))) for x in self.favored if x >= arguments]
+        body += self.commands(budget, 0)
+        if first or self.chance(0.3):
+            body += [("out", 2, ("var", x)) for x in self.favored]
         if first:
-            # so that what was worked out is seen
-            body += [("out", 2, ("var", x)) for x in self.rng.sample(range(self.variables), min(self.variables, 12))]
+            # and what stands in memory
+            body += [("out", 3, ("load", 4, ("word", BASE + 4 * k))) for k in self.rng.sample(range(MEMORY // 4), 4)]
             if self.chance(0.1):
                 body = [("while", ("word", 1), body)]
-        results = [self.any_variable() for _ in range(self.rng.choice([0, 0, 1, 2, 8]))]
+        results = [self.rng.choice(self.favored or [0]) for _ in range(self.rng.choice([0, 1, 1, 2, 8]))]
         return Function(arguments, self.variables, results, body)
 
     def program(self):
