@@ -21,7 +21,7 @@ use Rattle.format.specs.declared.token.Next.{Next}
 use Rattle.format.specs.Tokens.{lex, Nexts, tokens-e, tokens-es, tokens-v, tokens-c, tokens-cs, tokens-p, tokens}
 use Rattle.refusals.specs.declared.depth.Nest.{Nest}
 use Rattle.refusals.specs.Depth.{done, ended, deep-ts, levels, nest, Opened, Opened-expr, Opened-block, Stepped, Is-deep}
-use Rattle.refusals.proofs.Capped.{and-assoc, both, three, is-true, is-false}
+use Rattle.refusals.proofs.Capped.{both, three, is-true, is-false}
 use Rattle.refusals.proofs.Passes.{Remains, one-more, decided, at-last}
 
 -- room for one more level
@@ -36,29 +36,25 @@ unfolding deep-ts deep-e
 deeps-e (word n) es rs l ts = refl
 deeps-e (var x) es rs l ts = refl
 deeps-e (load n e) es rs l ts =
-    (λ i. room (length es) i && (deeps-e e (1 ∷ es) rs l ts ∙ ap (λ (k : ℕ). deep-e e k && deep-ts (done es) rs l ts) (less-room (length es))) i)
-    ∙ sym (and-assoc (ltb 0 (32 - length es)) (deep-e e (32 - length es - 1)) (deep-ts (done es) rs l ts))
+    let k : ℕ = 32 - length es - 1 in
+    let z : Bool = deep-ts (done es) rs l ts in
+    both (ltb 0 (32 - length es)) (deep-e e k) z (λ i. room (length es) i && deep-ts (1 ∷ es) rs l (tokens-e e ts)) (deeps-e e (1 ∷ es) rs l ts ∙ (λ i. deep-e e (less-room (length es) i) && z))
 deeps-e (op o d e) es rs l ts =
     let k : ℕ = 32 - length es - 1 in
-    let two : deep-ts (2 ∷ es) rs l (tokens-e d (tokens-e e ts)) ≡ ((deep-e d k && deep-e e k) && deep-ts (done es) rs l ts) =
-    deeps-e d (2 ∷ es) rs l (tokens-e e ts) ∙ ap (λ (b : Bool). deep-e d (32 - suc (length es)) && b) (deeps-e e (1 ∷ es) rs l ts)
-    ∙ ap (λ (m : ℕ). deep-e d m && (deep-e e m && deep-ts (done es) rs l ts)) (less-room (length es)) ∙ sym (and-assoc (deep-e d k) (deep-e e k) (deep-ts (done es) rs l ts)) in
-    (λ i. room (length es) i && two i) ∙ sym (and-assoc (ltb 0 (32 - length es)) (deep-e d k && deep-e e k) (deep-ts (done es) rs l ts))
+    let z : Bool = deep-ts (done es) rs l ts in
+    three (ltb 0 (32 - length es)) (deep-e d k) (deep-e e k) z (λ i. room (length es) i && deep-ts (2 ∷ es) rs l (tokens-e d (tokens-e e ts)))
+    (deeps-e d (2 ∷ es) rs l (tokens-e e ts) ∙ (λ i. deep-e d (less-room (length es) i) && deep-ts (1 ∷ es) rs l (tokens-e e ts))) (deeps-e e (1 ∷ es) rs l ts ∙ (λ i. deep-e e (less-room (length es) i) && z))
 deeps-e (if-not-zero c d e) es rs l ts =
     let k : ℕ = 32 - length es - 1 in
-    let three : deep-ts (3 ∷ es) rs l (tokens-e c (tokens-e d (tokens-e e ts))) ≡ ((deep-e c k && (deep-e d k && deep-e e k)) && deep-ts (done es) rs l ts) =
-    deeps-e c (3 ∷ es) rs l (tokens-e d (tokens-e e ts))
-    ∙ ap (λ (b : Bool). deep-e c (32 - suc (length es)) && b) (deeps-e d (2 ∷ es) rs l (tokens-e e ts) ∙ ap (λ (b : Bool). deep-e d (32 - suc (length es)) && b) (deeps-e e (1 ∷ es) rs l ts))
-    ∙ ap (λ (m : ℕ). deep-e c m && (deep-e d m && (deep-e e m && deep-ts (done es) rs l ts))) (less-room (length es))
-    ∙ ap (λ (b : Bool). deep-e c k && b) (sym (and-assoc (deep-e d k) (deep-e e k) (deep-ts (done es) rs l ts)))
-    ∙ sym (and-assoc (deep-e c k) (deep-e d k && deep-e e k) (deep-ts (done es) rs l ts)) in
-    (λ i. room (length es) i && three i) ∙ sym (and-assoc (ltb 0 (32 - length es)) (deep-e c k && (deep-e d k && deep-e e k)) (deep-ts (done es) rs l ts))
+    let z : Bool = deep-ts (done es) rs l ts in
+    both (ltb 0 (32 - length es)) (deep-e c k && (deep-e d k && deep-e e k)) z (λ i. room (length es) i && deep-ts (3 ∷ es) rs l (tokens-e c (tokens-e d (tokens-e e ts))))
+    (three (deep-e c k) (deep-e d k) (deep-e e k) z (deeps-e c (3 ∷ es) rs l (tokens-e d (tokens-e e ts)) ∙ (λ i. deep-e c (less-room (length es) i) && deep-ts (2 ∷ es) rs l (tokens-e d (tokens-e e ts))))
+    (deeps-e d (2 ∷ es) rs l (tokens-e e ts) ∙ (λ i. deep-e d (less-room (length es) i) && deep-ts (1 ∷ es) rs l (tokens-e e ts))) (deeps-e e (1 ∷ es) rs l ts ∙ (λ i. deep-e e (less-room (length es) i) && z)))
 
 deeps-es : (fs : List Expr) (rs : List ℕ) (l : ℕ) (ts : List Token) → deep-ts [] rs (suc l) (tokens-es fs ts) ≡ (deep-es fs && deep-ts [] rs l ts)
 unfolding deep-ts deep-es
 deeps-es [] rs l ts = refl
-deeps-es (e ∷ fs) rs l ts =
-    deeps-e e [] rs (suc l) (tokens-es fs ts) ∙ ap (λ (b : Bool). deep-e e 32 && b) (deeps-es fs rs l ts) ∙ sym (and-assoc (deep-e e 32) (deep-es fs) (deep-ts [] rs l ts))
+deeps-es (e ∷ fs) rs l ts = both (deep-e e 32) (deep-es fs) (deep-ts [] rs l ts) (deeps-e e [] rs (suc l) (tokens-es fs ts)) (deeps-es fs rs l ts)
 
 deeps-v : (xs : List ℕ) (rs : List ℕ) (l : ℕ) (ts : List Token) → deep-ts [] rs (suc l) (tokens-v xs ts) ≡ deep-ts [] rs l ts
 unfolding deep-ts
@@ -70,31 +66,25 @@ mutual
 
   deeps-c : (c : Cmd) (rs : List ℕ) (ts : List Token) → deep-ts [] rs 0 (tokens-c c ts) ≡ (deep-c c (32 - length rs) && deep-ts [] rs 0 ts)
   deeps-c (set x e) rs ts = deeps-e e [] rs 0 ts
-  deeps-c (store n d e) rs ts =
-      deeps-e d [] rs 0 (tokens-e e ts) ∙ ap (λ (b : Bool). deep-e d 32 && b) (deeps-e e [] rs 0 ts) ∙ sym (and-assoc (deep-e d 32) (deep-e e 32) (deep-ts [] rs 0 ts))
+  deeps-c (store n d e) rs ts = both (deep-e d 32) (deep-e e 32) (deep-ts [] rs 0 ts) (deeps-e d [] rs 0 (tokens-e e ts)) (deeps-e e [] rs 0 ts)
   deeps-c (if-then e cs ds) rs ts =
       let k : ℕ = 32 - length rs - 1 in
-      let inner : deep-ts [] (2 ∷ rs) 0 (tokens-e e (tokens-cs cs (tokens-cs ds ts))) ≡ ((deep-e e 32 && (deep-cs cs k && deep-cs ds k)) && deep-ts [] rs 0 ts) =
-      deeps-e e [] (2 ∷ rs) 0 (tokens-cs cs (tokens-cs ds ts))
-      ∙ ap (λ (b : Bool). deep-e e 32 && b) (deeps-cs cs (2 ∷ rs) (tokens-cs ds ts) ∙ ap (λ (b : Bool). deep-cs cs (32 - suc (length rs)) && b) (deeps-cs ds (1 ∷ rs) ts)
-      ∙ ap (λ (m : ℕ). deep-cs cs m && (deep-cs ds m && deep-ts [] rs 0 ts)) (less-room (length rs)) ∙ sym (and-assoc (deep-cs cs k) (deep-cs ds k) (deep-ts [] rs 0 ts)))
-      ∙ sym (and-assoc (deep-e e 32) (deep-cs cs k && deep-cs ds k) (deep-ts [] rs 0 ts)) in
-      (λ i. room (length rs) i && inner i) ∙ sym (and-assoc (ltb 0 (32 - length rs)) (deep-e e 32 && (deep-cs cs k && deep-cs ds k)) (deep-ts [] rs 0 ts))
+      let z : Bool = deep-ts [] rs 0 ts in
+      both (ltb 0 (32 - length rs)) (deep-e e 32 && (deep-cs cs k && deep-cs ds k)) z (λ i. room (length rs) i && deep-ts [] (2 ∷ rs) 0 (tokens-e e (tokens-cs cs (tokens-cs ds ts))))
+      (three (deep-e e 32) (deep-cs cs k) (deep-cs ds k) z (deeps-e e [] (2 ∷ rs) 0 (tokens-cs cs (tokens-cs ds ts)))
+      (deeps-cs cs (2 ∷ rs) (tokens-cs ds ts) ∙ (λ i. deep-cs cs (less-room (length rs) i) && deep-ts [] (1 ∷ rs) 0 (tokens-cs ds ts))) (deeps-cs ds (1 ∷ rs) ts ∙ (λ i. deep-cs ds (less-room (length rs) i) && z)))
   deeps-c (while e cs) rs ts =
       let k : ℕ = 32 - length rs - 1 in
-      let inner : deep-ts [] (1 ∷ rs) 0 (tokens-e e (tokens-cs cs ts)) ≡ ((deep-e e 32 && deep-cs cs k) && deep-ts [] rs 0 ts) =
-      deeps-e e [] (1 ∷ rs) 0 (tokens-cs cs ts)
-      ∙ ap (λ (b : Bool). deep-e e 32 && b) (deeps-cs cs (1 ∷ rs) ts ∙ ap (λ (m : ℕ). deep-cs cs m && deep-ts [] rs 0 ts) (less-room (length rs)))
-      ∙ sym (and-assoc (deep-e e 32) (deep-cs cs k) (deep-ts [] rs 0 ts)) in
-      (λ i. room (length rs) i && inner i) ∙ sym (and-assoc (ltb 0 (32 - length rs)) (deep-e e 32 && deep-cs cs k) (deep-ts [] rs 0 ts))
+      let z : Bool = deep-ts [] rs 0 ts in
+      three (ltb 0 (32 - length rs)) (deep-e e 32) (deep-cs cs k) z (λ i. room (length rs) i && deep-ts [] (1 ∷ rs) 0 (tokens-e e (tokens-cs cs ts))) (deeps-e e [] (1 ∷ rs) 0 (tokens-cs cs ts))
+      (deeps-cs cs (1 ∷ rs) ts ∙ (λ i. deep-cs cs (less-room (length rs) i) && z))
   deeps-c (call g es xs) rs ts = deeps-es es rs 1 (tokens-v xs ts) ∙ ap (λ (b : Bool). deep-es es && b) (deeps-v xs rs 0 ts)
   deeps-c (from-door x d) rs ts = refl
   deeps-c (to-door d e) rs ts = deeps-e e [] rs 0 ts
 
   deeps-cs : (cs : Cmds) (rs : List ℕ) (ts : List Token) → deep-ts [] rs 0 (tokens-cs cs ts) ≡ (deep-cs cs (32 - length rs) && deep-ts [] (ended rs) 0 ts)
   deeps-cs none rs ts = refl
-  deeps-cs (more c cs) rs ts =
-      deeps-c c rs (tokens-cs cs ts) ∙ ap (λ (b : Bool). deep-c c (32 - length rs) && b) (deeps-cs cs rs ts) ∙ sym (and-assoc (deep-c c (32 - length rs)) (deep-cs cs (32 - length rs)) (deep-ts [] (ended rs) 0 ts))
+  deeps-cs (more c cs) rs ts = both (deep-c c (32 - length rs)) (deep-cs cs (32 - length rs)) (deep-ts [] (ended rs) 0 ts) (deeps-c c rs (tokens-cs cs ts)) (deeps-cs cs rs ts)
 
 pub deeps-p : (p : Program) → deep-ts [] [] 0 (tokens p) ≡ all-deep p
 unfolding deep-ts all-deep

@@ -68,12 +68,6 @@ after-counts i j m (Header a v) h c = omega arith
 pub step-counts : (i j : ℕ) (m k : Mode) (t : Token) → i < j → Counts i m → Stepped m t (Goes k) → Counts j k
 step-counts i j m k t h c s = subst (λ (x : Mode). Counts j x) (s .1) (after-counts i j m t h c)
 
-pub no-overflow : (i : ℕ) (m : Mode) → i + 1 < 2 ^ 64 → Counts i m → Counted m
-no-overflow i Body h c = tt
-no-overflow i (Results a r) h c = omega arith
-no-overflow i (Arguments g a e) h c = (omega arith, omega arith)
-no-overflow i (Variables g a r) h c = omega arith
-
 -- from a place on, the events of what is left are those that were to come
 abbrev pub Coming : List ℕ → ℕ → ℕ → Mode → Type 0
 Coming text at i m = (ts : List Token) → Lexes (drop at text) ts → Left (List Event) text i (events m) (events Body) ts
