@@ -1,5 +1,5 @@
 // Prints what the scan, the lexer and the list of refusals say of the texts in the lines of the input.
-// tests/vectors/refusals.py, a program of its own, makes the lines and what is expected of them.
+// tests/vectors/texts.py, a program of its own, makes the lines and what is expected of them.
 mod hexadecimal;
 mod tokens;
 
