@@ -28,7 +28,7 @@ use Rattle.codegen.specs.Commands.{store-of, slots-from, load-registers, store
 use Rattle.codegen.specs.Transfers.{transfers}
 use Rattle.codegen.specs.Valid.{Valid-e, Valid-es, Valid-v, Valid-c, Valid-cs}
 use Rattle.codegen.specs.Emission.{limit, Emitted, Patched}
-use Rattle.codegen.specs.Emits.{Done, by-table, Emits-e, Emits-es, Emits-v, Emits-set, Emits-store, Emits-input, Emits-output, Emits-call, Emits-if, Emits-while, Emits-c, Emits-cs}
+use Rattle.codegen.specs.Emitting.{Done, by-table, Emits-e, Emits-es, Emits-v, Emits-set, Emits-store, Emits-input, Emits-output, Emits-call, Emits-if, Emits-while, Emits-c, Emits-cs}
 use Rattle.codegen.proofs.Emitted.{nothing, and-then, either-emitted, looped-emitted}
 use Rattle.codegen.proofs.SlotParts.{loads-are, stores-are}
 use Rattle.codegen.proofs.ExpressionParts.{size-uncapped}

@@ -29,7 +29,7 @@ use Rattle.codegen.specs.Frame.{load-slot, store-slot}
 use Rattle.codegen.specs.Expressions.{code-e, code-op, load-of, skip-unless-zero, either}
 use Rattle.codegen.specs.Valid.{Valid-e}
 use Rattle.codegen.specs.Emission.{Emitted, Patched}
-use Rattle.codegen.specs.Emits.{Done, Emits-e, Emits-load, Emits-operation, Emits-choice}
+use Rattle.codegen.specs.Emitting.{Done, Emits-e, Emits-load, Emits-operation, Emits-choice}
 use Rattle.codegen.proofs.Emitted.{and-then, either-emitted}
 
 -- 1, 2 or 4 is not capped

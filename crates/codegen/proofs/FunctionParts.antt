@@ -35,8 +35,8 @@ use Rattle.codegen.specs.Program.{length-f, starts, linked, stack-for}
 use Rattle.codegen.specs.Transfers.{transfers}
 use Rattle.codegen.specs.Valid.{Valid-f, Valid-p}
 use Rattle.codegen.specs.Emission.{limit, Emitted}
-use Rattle.codegen.specs.Emits.{Done, by-table, Emits-v, Emits-cs}
-use Rattle.codegen.specs.Framed.{Frames, Emits-prologue, Emits-leave, Emits-f, Measures, words-in, Lays-out, Lays, Emits-p}
+use Rattle.codegen.specs.Emitting.{Done, by-table, Emits-v, Emits-cs}
+use Rattle.codegen.specs.Layouts.{Frames, Emits-prologue, Emits-leave, Emits-f, Measures, words-in, Lays-out, Lays, Emits-p}
 use Rattle.codegen.proofs.Emitted.{nothing, and-then}
 use Rattle.codegen.proofs.SlotParts.{loads-are, stores-are}
 

@@ -8,7 +8,7 @@ use Rattle.riscv.specs.declared.instruction.Instruction.{Instruction}
 use Rattle.riscv.specs.declared.instruction.Instruction.the-variants.{Immediate}
 use Rattle.riscv.specs.declared.instruction.ImmediateOp.the-variants.{Sltiu}
 use Rattle.riscv.specs.declared.instruction.RegisterOp.{RegisterOp}
-use Rattle.codegen.specs.Choosing.{register-op-of}
+use Rattle.codegen.specs.Selection.{register-op-of}
 use Rattle.codegen.specs.Expressions.{code-op, both}
 
 pub equal-code : (o : Operator) (r : RegisterOp) → o ≡ Equal → r ≡ register-op-of o → code-op (op-of o) ≡ both r ∷ (Immediate Sltiu 5 5 1 ∷ [])

@@ -22,7 +22,7 @@ use Rattle.codegen.specs.Commands.{slots-from, load-registers, store-registers
 use Rattle.codegen.specs.Transfers.{transfer-of, transfers}
 use Rattle.codegen.specs.Valid.{Valid-v}
 use Rattle.codegen.specs.Emission.{Emitted, Puts}
-use Rattle.codegen.specs.Emits.{Done, Emits-v}
+use Rattle.codegen.specs.Emitting.{Done, Emits-v}
 use Rattle.codegen.proofs.Emitted.{nothing, and-then}
 
 pub loads-are : (xs : List ℕ) (r : ℕ) → transfers Load xs r ≡ load-registers xs r

@@ -7,6 +7,6 @@ pub mod Program
 pub mod Emission
 pub mod Transfers
 pub mod Valid
-pub mod Emits
-pub mod Choosing
-pub mod Framed
+pub mod Emitting
+pub mod Selection
+pub mod Layouts

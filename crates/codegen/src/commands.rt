@@ -2,7 +2,7 @@
 ghost use Prim.Native.Nat.{_+_, _<_, _≤_};
 ghost use Rattle.codegen.specs.Commands.{call-at, store-of};
 ghost use Rattle.codegen.specs.Emission.{Emitted};
-ghost use Rattle.codegen.specs.Emits.{Moves, by-table, Emits-es, Emits-set, Emits-store, Emits-input, Emits-output, Emits-call, Emits-if, Emits-while, Emits-c, Emits-cs};
+ghost use Rattle.codegen.specs.Emitting.{Moves, by-table, Emits-es, Emits-set, Emits-store, Emits-input, Emits-output, Emits-call, Emits-if, Emits-while, Emits-c, Emits-cs};
 ghost use Rattle.format.specs.Tokens.{Nexts};
 ghost use Rattle.std.specs.declared.option.Option.the-variants.{Some};
 ghost use lib.ListN.{length};

@@ -1,8 +1,8 @@
 // The code of expressions.
 ghost use Prim.Native.Nat.{_+_, _%_, _<_};
-ghost use Rattle.codegen.specs.Choosing.{register-op-of};
+ghost use Rattle.codegen.specs.Selection.{register-op-of};
 ghost use Rattle.codegen.specs.Emission.{Emitted};
-ghost use Rattle.codegen.specs.Emits.{Moves, Emits-e, Emits-load, Emits-operation, Emits-choice};
+ghost use Rattle.codegen.specs.Emitting.{Moves, Emits-e, Emits-load, Emits-operation, Emits-choice};
 ghost use Rattle.codegen.specs.Expressions.{code-e, code-op, load-of};
 ghost use Rattle.model.specs.Source.{word};
 ghost use Rattle.words.specs.Operators.{op-of};

@@ -1,6 +1,6 @@
 // The frame of a function.
 ghost use Prim.Native.Nat.{_+_, _*_, _/_, _%_, _≤_};
-ghost use Rattle.codegen.specs.Framed.{Small};
+ghost use Rattle.codegen.specs.Layouts.{Small};
 ghost use mathlib.Core.Path.{_≡_};
 use crate::layout::Frame;
 

@@ -1,8 +1,8 @@
 // The code of functions, and of a program.
 ghost use Prim.Native.Nat.{_+_, _≤_};
 ghost use Rattle.codegen.specs.Emission.{Emitted};
-ghost use Rattle.codegen.specs.Emits.{Moves};
-ghost use Rattle.codegen.specs.Framed.{Small, Emits-prologue, Emits-leave, Emits-f, Measures, Lays, Emits-p};
+ghost use Rattle.codegen.specs.Emitting.{Moves};
+ghost use Rattle.codegen.specs.Layouts.{Small, Emits-prologue, Emits-leave, Emits-f, Measures, Lays, Emits-p};
 ghost use Rattle.codegen.specs.Functions.{zero-slots};
 ghost use lib.ListN.{length};
 ghost use mathlib.Core.Path.{_≡_};

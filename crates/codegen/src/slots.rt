@@ -2,7 +2,7 @@
 ghost use Prim.Native.Nat.{_+_, _<_, _≤_};
 ghost use Rattle.codegen.specs.Commands.{slots-from};
 ghost use Rattle.codegen.specs.Emission.{Emitted};
-ghost use Rattle.codegen.specs.Emits.{Moves, Emits-v};
+ghost use Rattle.codegen.specs.Emitting.{Moves, Emits-v};
 ghost use Rattle.codegen.specs.Transfers.{transfer-of, transfers};
 ghost use mathlib.Core.Path.{_≡_};
 use crate::cursor::Cursor;

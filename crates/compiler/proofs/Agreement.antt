@@ -15,7 +15,7 @@ use Rattle.codegen.specs.Expressions.{code-e, code-es, either}
 use Rattle.codegen.specs.Commands.{slots-from, load-registers, store-registers, call-at, looped, code-c, code-cs}
 use Rattle.codegen.specs.Functions.{prologue, epilogue, code-f}
 use Rattle.codegen.specs.Program.{length-f, linked}
-use Rattle.codegen.specs.Framed.{words-in}
+use Rattle.codegen.specs.Layouts.{words-in}
 use Rattle.correctness.proofs.Sizes.{f-same}
 
 module _ (at to : ℕ → ℕ) (n : ℕ) (same : (g : ℕ) → g < n → at g ≡ to g) where

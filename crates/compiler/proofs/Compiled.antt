@@ -15,10 +15,10 @@ use Rattle.model.proofs.Accepted.{Accepted, accepted}
 use Rattle.riscv.specs.declared.instruction.Instruction.{Instruction}
 use Rattle.codegen.specs.Program.{starts, linked, words-of, code-of, stack-for, made, compile}
 use Rattle.codegen.specs.Emission.{limit, Wrote, Emitted}
-use Rattle.codegen.specs.Emits.{by-table}
+use Rattle.codegen.specs.Emitting.{by-table}
 use Rattle.std.specs.declared.result.Result.the-variants.{Ok, Err}
 use Rattle.codegen.specs.declared.layout.Layout.{Layout}
-use Rattle.codegen.specs.Framed.{words-in, Lays-out, Lays, Emits-p}
+use Rattle.codegen.specs.Layouts.{words-in, Lays-out, Lays, Emits-p}
 use Rattle.format.specs.Format.{bytes-p, bytes-of, read}
 use Rattle.format.proofs.Back.{reads-back}
 use Rattle.format.proofs.Sound.{one-way-to-write}

@@ -1,6 +1,6 @@
 use Prim.Native.Nat.{_+_, _*_, _-_}
 use lib.ListN.{length}
-use Rattle.codegen.specs.Emits.{Moves}
+use Rattle.codegen.specs.Emitting.{Moves}
 use Rattle.codegen.proofs.CommandParts.{So-far}
 use Rattle.codegen.proofs.commands.+command+commands+conditional+repeated.Given as given
 

@@ -15,7 +15,7 @@ use Rattle.codegen.specs.Functions.{prologue, code-f}
 use Rattle.codegen.specs.Program.{length-f, starts, linked, stack-for}
 use Rattle.codegen.specs.Valid.{Valid-f, Valid-p}
 use Rattle.codegen.specs.Emission.{limit, Emitted}
-use Rattle.codegen.specs.Emits.{by-table, Done}
+use Rattle.codegen.specs.Emitting.{by-table, Done}
 
 abbrev pub Small : Frame → Type 0
 Small f = (f .arguments ≤ 8) × (f .variables ≤ 256)
