@@ -97,12 +97,7 @@ fn run(rt: &LibcRuntime, path: &str, to: Option<&str>) -> Result<(), Failed> {
             refuse(rt, e.number, e.place, e.words)
         }
         Answer::NoRoom(_) => refuse(rt, 8, 0, "the code is longer than there is room for"),
-        Answer::Compiled(stack, words) => {
-            if words > code.len() {
-                return Err(Failed);
-            }
-            deliver(rt, stack, &code[0..words], to)
-        }
+        Answer::Compiled(stack, words) => deliver(rt, stack, &code[0..words], to),
     }
 }
 
