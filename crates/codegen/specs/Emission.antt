@@ -27,7 +27,9 @@ pub record Emitted (pos end : ℕ) (is : List Instruction) (before after : List 
 abbrev pub Puts : ℕ → ℕ → Instruction → List ℕ → List ℕ → Type 0
 Puts pos end i before after = Fits i → Emitted pos end (i ∷ []) before after
 
--- a jump from `pos` on to `end` in the place of what was there
+-- a jump from `pos` on to `end` in the place of what was there; nothing where that is no jump on, or there is no room
 pub record Patched (pos end : ℕ) (before after : List ℕ) : Type 0 where
   pub is : pos < end → end - pos ≤ limit → pos < length before → after ≡ set before pos (encode (jump-on (end - pos)))
+  pub no-jump : end ≤ pos → after ≡ before
+  pub no-room : length before ≤ pos → after ≡ before
   pub kept : length after ≡ length before

@@ -1,17 +1,19 @@
 // Instructions written into lent code, as far as there is room, and counted in any case.
-ghost use Prim.Native.Nat.{_*_, _-_, _%_, _<_, _≤_};
+ghost use Prim.Native.Nat.{_+_, _*_, _-_, _%_, _<_, _≤_, min};
 ghost use Rattle.codegen.specs.Emission.{limit, Puts, Patched};
 ghost use Rattle.codegen.specs.Expressions.{jump-on};
 ghost use Rattle.codegen.specs.Frame.{back};
-ghost use Rattle.riscv.specs.Encoding.{encode as encoded};
+ghost use Rattle.riscv.specs.Encoding.{truncated, encode as encoded};
 ghost use lib.ListN.{length, set};
 ghost use mathlib.Core.Path.{_≡_};
 use riscv::encoding::encode;
 use riscv::instruction::Instruction;
 
-// One instruction at `pos`; what comes after it stands at the answer.
+// One instruction at `pos`, if there is room; what comes after it stands at the answer.
 pub fn put(code: &mut [u32], pos: usize, i: Instruction) -> usize
-    ensures { λ r. ⌜ Puts pos r i (now (code .entry)) (now (code .exit)) ⌝ }
+    ensures emits { λ r. ⌜ Puts pos r i (now (code .entry)) (now (code .exit)) ⌝ }
+    ensures writes { λ _. ⌜ now (code .exit) ≡ set (now (code .entry)) pos (encoded (truncated i)) ⌝ }
+    ensures counts { λ r. ⌜ r ≡ min (pos + 1) 18446744073709551615 ⌝ }
 {
     if pos >= code.len() {
         return pos.saturating_add(1);

@@ -27,7 +27,7 @@ returns t c = record {
   emits = more-arguments (c .args .text .now) (c .args .from) (c .in-Some .n) (c .args .slot) (c .args .left) (c .in-Some .ensures tt)
       (c .expression-c .result) (c .arguments-more .result .to) (c .put-pos .result) (c .arguments-more .result .count)
       (c .args .code .now) (c .expression-c .last .code) (c .put-pos .last .code) (c .arguments-more .last .code) (c .in-rest-token .not-End)
-      (c .expression-c .ensures .emits) (c .put-pos .ensures (omega arith, omega arith, omega arith)) (c .arguments-more .ensures .emits);
+      (c .expression-c .ensures .emits) (c .put-pos .ensures .emits (omega arith, omega arith, omega arith)) (c .arguments-more .ensures .emits);
   moves = search needs;
   few = search needs;
 }

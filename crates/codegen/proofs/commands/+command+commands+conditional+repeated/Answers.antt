@@ -89,8 +89,8 @@ conditional-returns t c = record {
       (c .put-first .result) (c .put-pos .result) (c .put-third .result) _ _
       (c .args .code .now) (c .expression-c .last .code) (c .put-first .last .code) (c .put-pos .last .code) (c .commands-d .last .code) (c .put-third .last .code) (c .commands-e .last .code)
       (c .patch .last .code) (c .patch-2 .last .code)
-      (c .expression-c .ensures .emits) (c .put-first .ensures (omega arith, omega arith, omega arith, omega arith)) (c .put-pos .ensures (omega arith, omega arith, omega arith))
-      (c .commands-d .ensures .emits) (c .put-third .ensures (omega arith, omega arith, omega arith)) (c .commands-e .ensures .emits) (c .patch .ensures) (c .patch-2 .ensures);
+      (c .expression-c .ensures .emits) (c .put-first .ensures .emits (omega arith, omega arith, omega arith, omega arith)) (c .put-pos .ensures .emits (omega arith, omega arith, omega arith))
+      (c .commands-d .ensures .emits) (c .put-third .ensures .emits (omega arith, omega arith, omega arith)) (c .commands-e .ensures .emits) (c .patch .ensures) (c .patch-2 .ensures);
   moves = search needs;
 }
 
@@ -99,7 +99,7 @@ repeated-returns t c = record {
   emits = while-done (c .args .starts .now) (c .args .text .now) (c .args .from) (c .expression-c .result) (c .commands-d .result) (c .args .temp) (c .args .depth)
       (c .put-first .result) (c .put-pos .result) (c .put-end .result) (c .back-to .result) _
       (c .args .code .now) (c .expression-c .last .code) (c .put-first .last .code) (c .put-pos .last .code) (c .commands-d .last .code) (c .put-end .last .code) (c .patch .last .code)
-      (c .expression-c .ensures .emits) (c .put-first .ensures (omega arith, omega arith, omega arith, omega arith)) (c .put-pos .ensures (omega arith, omega arith, omega arith))
-      (c .commands-d .ensures .emits) (c .put-end .ensures (omega arith, c .back-to .ensures .fits .0, c .back-to .ensures .fits .1)) (c .back-to .ensures .far) (c .patch .ensures);
+      (c .expression-c .ensures .emits) (c .put-first .ensures .emits (omega arith, omega arith, omega arith, omega arith)) (c .put-pos .ensures .emits (omega arith, omega arith, omega arith))
+      (c .commands-d .ensures .emits) (c .put-end .ensures .emits (omega arith, c .back-to .ensures .fits .0, c .back-to .ensures .fits .1)) (c .back-to .ensures .far) (c .patch .ensures);
   moves = search needs;
 }

@@ -10,8 +10,8 @@ choice-returns t c = record {
       (c .put-first .result) (c .put-pos .result) (c .put-third .result) _ _
       (c .args .code .now) (c .expression-c .last .code) (c .put-first .last .code) (c .put-pos .last .code) (c .expression-d .last .code) (c .put-third .last .code) (c .expression-e .last .code)
       (c .patch .last .code) (c .patch-2 .last .code)
-      (c .expression-c .ensures .emits) (c .put-first .ensures (omega arith, omega arith, omega arith, omega arith)) (c .put-pos .ensures (omega arith, omega arith, omega arith))
-      (c .expression-d .ensures .emits) (c .put-third .ensures (omega arith, omega arith, omega arith)) (c .expression-e .ensures .emits) (c .patch .ensures) (c .patch-2 .ensures);
+      (c .expression-c .ensures .emits) (c .put-first .ensures .emits (omega arith, omega arith, omega arith, omega arith)) (c .put-pos .ensures .emits (omega arith, omega arith, omega arith))
+      (c .expression-d .ensures .emits) (c .put-third .ensures .emits (omega arith, omega arith, omega arith)) (c .expression-e .ensures .emits) (c .patch .ensures) (c .patch-2 .ensures);
   moves = search needs;
 }
 
@@ -28,7 +28,7 @@ expression-returns-in-Word t c = record {
 pub expression-returns-in-Var : need.expression-returns-in-Var
 expression-returns-in-Var t c = record {
   emits = var-head (c .args .text .now) (c .args .from) (c .in-Some .n) (c .args .temp) (c .args .depth) (c .args .code .now) (c .put-pos .last .code) (c .in-Some .ensures tt)
-      (c .in-Var .x) (c .put-pos .result) (c .in-Var .is) (c .put-pos .ensures (omega arith, omega arith, omega arith));
+      (c .in-Var .x) (c .put-pos .result) (c .in-Var .is) (c .put-pos .ensures .emits (omega arith, omega arith, omega arith));
   moves = (omega (arith, c .in-Some .ensures tt .1), λ h. c .in-Some .ensures tt .2);
 }
 
@@ -63,7 +63,7 @@ expression-returns-in-rest-token t c = record {
 pub load-returns : need.load-returns
 load-returns t c = record {
   emits = load-done (c .args .text .now) (c .args .from) (c .expression-c .result) (c .args .size) (c .args .temp) (c .args .depth) (c .put-pos .result) (c .load-op .result)
-      (c .args .code .now) (c .expression-c .last .code) (c .put-pos .last .code) (c .load-op .ensures) (c .expression-c .ensures .emits) (c .put-pos .ensures (omega arith, omega arith, omega arith));
+      (c .args .code .now) (c .expression-c .last .code) (c .put-pos .last .code) (c .load-op .ensures) (c .expression-c .ensures .emits) (c .put-pos .ensures .emits (omega arith, omega arith, omega arith));
   moves = search needs;
 }
 
@@ -72,7 +72,7 @@ operation-returns t c = record {
   emits = operation-done (c .args .text .now) (c .args .from) (c .expression-c .result) (c .expression-d .result) (c .args .o) (c .args .temp) (c .args .depth)
       (c .put-pos .result) (c .put-pos-2 .result) (c .operator-pos .result)
       (c .args .code .now) (c .expression-c .last .code) (c .put-pos .last .code) (c .expression-d .last .code) (c .put-pos-2 .last .code) (c .operator-pos .last .code)
-      (c .expression-c .ensures .emits) (c .put-pos .ensures (omega arith, omega arith, omega arith)) (c .expression-d .ensures .emits)
-      (c .put-pos-2 .ensures (omega arith, omega arith, omega arith)) (c .operator-pos .ensures);
+      (c .expression-c .ensures .emits) (c .put-pos .ensures .emits (omega arith, omega arith, omega arith)) (c .expression-d .ensures .emits)
+      (c .put-pos-2 .ensures .emits (omega arith, omega arith, omega arith)) (c .operator-pos .ensures);
   moves = search needs;
 }

@@ -18,5 +18,7 @@ first-of-part xs ys pos w h e =
 pub returns-then-pos-end : need.returns-then-pos-end
 returns-then-pos-end c = record {
   is = λ lt small room. first-of-part (c .args .code .now) (c .jump-on .last .part) (c .args .pos) _ (c .if-pos-code .taken) (c .jump-on .ensures small);
+  no-jump = λ le. absurd (omega (arith, c .if-pos-end .taken));
+  no-room = λ le. absurd (omega (arith, c .if-pos-code .taken));
   kept = simp (length-append, length-take, length-drop) (omega (arith, simp (length-take, length-drop) at (c .jump-on .kept .part)));
 }

@@ -8,4 +8,4 @@ returns-then-count-eq0 t c = no-slots (c .args .way) (c .args .register) (c .arg
 pub returns : need.returns
 returns t c =
     more-slots (c .args .way) (c .args .register) (c .args .slot) (c .args .count) (c .args .pos) (c .put-next .result) (c .slots .result) (c .transfer .result)
-    (c .args .code .now) (c .put-next .last .code) (c .slots .last .code) (omega arith) (c .pre .0) (c .pre .1) (c .transfer .ensures) (c .put-next .ensures) (c .slots .ensures)
+    (c .args .code .now) (c .put-next .last .code) (c .slots .last .code) (omega arith) (c .pre .0) (c .pre .1) (c .transfer .ensures) (c .put-next .ensures .emits) (c .slots .ensures)

@@ -24,6 +24,6 @@ pub returns : need.returns
 returns t c = record {
   emits = more-variables (c .args .way) (c .args .text .now) (c .args .from) (c .in-Some .n) (c .args .register) (c .args .left) (c .in-Some .ensures tt)
       (c .in-Var .x) (c .put-pos .result) (c .variables .result) (c .transfer .result) (c .args .code .now) (c .put-pos .last .code) (c .variables .last .code)
-      (c .in-Var .is) (omega arith) (c .pre) (c .transfer .ensures) (c .put-pos .ensures) (c .variables .ensures .emits);
+      (c .in-Var .is) (omega arith) (c .pre) (c .transfer .ensures) (c .put-pos .ensures .emits) (c .variables .ensures .emits);
   moves = (omega (arith, c .in-Some .ensures tt .1, c .variables .ensures .moves .0), λ h. c .variables .ensures .moves .1 (c .in-Some .ensures tt .2));
 }
