@@ -27,7 +27,7 @@ use Rattle.refusals.specs.declared.refusal.Refusal.the-variants.{Malformed, Ran
 use Rattle.refusals.specs.Answer.{reason, place-of}
 use Rattle.compiler.specs.declared.answer.Answer.{Answer}
 use Rattle.compiler.specs.declared.answer.Answer.the-variants.{Refused, Compiled, NoRoom}
-use Rattle.compiler.specs.Contract.{everything, promised-answer, Answered, Generated, Stack-needed}
+use Rattle.compiler.specs.Contract.{everything, promised-answer, numbers, Answered, Numbered, Generated, Stack-needed}
 use Rattle.compiler.proofs.Validity.{valid}
 use Rattle.codegen.proofs.Emitted.{words-length}
 use Rattle.correctness.proofs.Linking.{code-small}
@@ -109,6 +109,11 @@ refused-so text before r e f = (makes-refusal everything (read text) (reason r) 
 pub compiled-so : (text before after : List ℕ) (a : Answer) (p : Program) → ((i : ℕ) → getD text i 0 < 256) → turned everything (read text) ≡ 0 → read text ≡ program p → Generated text before after a →
     Answered text before after a
 compiled-so text before after a p bytes t e g = g p (one-way-to-write text p bytes e) (ap (turned everything) (sym e) ∙ t)
+
+pub in-numbers : (text before after : List ℕ) (a : Answer) → Answered text before after a → Numbered text after a
+in-numbers text before after (Refused r) h = ap numbers (h .0)
+in-numbers text before after (Compiled stack n) h = ap numbers (h .0)
+in-numbers text before after (NoRoom n) h = refl
 
 pub stack-so : (text table : List ℕ) (layout : Layout) (p : Program) → ((i : ℕ) → getD text i 0 < 256) → turned everything (read text) ≡ 0 → read text ≡ program p → Lays text table layout →
     Stack-needed text (Ok (layout .stack))

@@ -39,6 +39,12 @@ Answered text before after (Refused r) = (meaning (Refused r) after ≡ promised
 Answered text before after (Compiled stack n) = (meaning (Compiled stack n) after ≡ promised-answer text) × (n ≤ length before) × (drop n after ≡ drop n before)
 Answered text before after (NoRoom n) = ((cs : List ℕ) × (stack : ℕ) × (promised-answer text ≡ compiled cs stack) × (length cs ≡ n)) × (length before < n) × (after ≡ before)
 
+-- in numbers: the promised answer's, or that there is no room
+abbrev pub Numbered : List ℕ → List ℕ → Answer → Type 0
+Numbered text code (Refused r) = numbers (meaning (Refused r) code) ≡ numbers (promised-answer text)
+Numbered text code (Compiled stack n) = numbers (meaning (Compiled stack n) code) ≡ numbers (promised-answer text)
+Numbered text code (NoRoom n) = numbers (meaning (NoRoom n) code) ≡ 0 ∷ (8 ∷ (0 ∷ []))
+
 -- of a program that isn't refused
 abbrev pub Generated : List ℕ → List ℕ → List ℕ → Answer → Type 0
 Generated text before after a = (p : Program) → text ≡ format .bytes-of p → turned everything (program p) ≡ 0 → Answered text before after a

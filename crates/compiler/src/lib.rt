@@ -4,7 +4,7 @@ pub mod export;
 pub mod numbers;
 
 ghost use Rattle.codegen.specs.Program.{compiler};
-ghost use Rattle.compiler.specs.Contract.{Answered, Generated, Stack-needed};
+ghost use Rattle.compiler.specs.Contract.{Answered, Generated, Numbered, Stack-needed};
 ghost use Rattle.correctness.specs.Promised.{Promised};
 ghost use Rattle.format.specs.Format.{format};
 ghost use Rattle.model.specs.Promise.{all, Reads-back};
@@ -39,11 +39,13 @@ fn generate(text: &[u8], code: &mut [u32]) -> Answer
 //
 // answered: the answer is what the promised compiler makes of what the text is read as; nothing but the code is written,
 // and nothing at all unless it is compiled.
+// numbered: in numbers that is 0, the refusal and its place; or 1, the bytes of stack, and the code.
 // promised: that compiler refuses what has to be refused and nothing else, its code does what the program does, and
 // what the stack held at first is never seen.
 // read: every program has bytes, and reading them gives it back.
 pub fn compile(text: &[u8], code: &mut [u32]) -> Answer
     ensures answered { λ r. ⌜ Answered (now (text .entry)) (now (code .entry)) (now (code .exit)) r ⌝ }
+    ensures numbered { λ r. ⌜ Numbered (now (text .entry)) (now (code .exit)) r ⌝ }
     ensures promised { λ _. ⌜ Promised all compiler ⌝ }
     ensures read { λ _. ⌜ Reads-back format ⌝ }
 {

@@ -11,7 +11,7 @@ pub returns-then-pos-code : need.returns-then-pos-code
 returns-then-pos-code c = record {
   emits = λ f. one-counted (c .args .code .now) (c .args .pos) _ (c .args .i) (c .if-pos-code .taken) (λ h. omega arith);
   writes = sym (set-past (c .args .code .now) (c .args .pos) _ (c .if-pos-code .taken));
-  counts = c .saturating-add .ensures;
+  counts = search needs;
 }
 
 pub returns : need.returns
