@@ -20,7 +20,7 @@ use Rattle.format.specs.declared.token.Token.the-variants.{End, Word, Var, Load
 use Rattle.format.specs.declared.token.Next.{Next}
 use Rattle.format.specs.Tokens.{lex, Nexts, tokens-e, tokens-es, tokens-v, tokens-c, tokens-cs, tokens-p, tokens}
 use Rattle.refusals.specs.declared.depth.Nest.{Nest}
-use Rattle.refusals.specs.Depth.{done, ended, deep-ts, levels, nest, Opened, Opened-expr, Opened-block, Stepped, Is-deep}
+use Rattle.refusals.specs.Depth.{done, ended, deep-ts, levels, nest, Opened, Opened-expr, Opened-block, Stepped, Within-depth}
 use Rattle.refusals.proofs.Capped.{both, three, is-true, is-false}
 use Rattle.refusals.proofs.Passes.{Remains, one-more, decided, at-last}
 
@@ -245,9 +245,9 @@ Pass text i es rs n = Remains Bool text i (deep-at es rs n) (deep-ts [] [] 0)
 pub pass-on : (text : List ℕ) (i : ℕ) (x : Next) (es rs fs ss : List ℕ) (n m : Nest) → Nexts text i (Some x) → Stepped es rs n (x .token) fs ss (Some m) → Pass text i es rs n → Pass text (x .end) fs ss m
 pass-on text i x es rs fs ss n m e s d = one-more Bool text i x (deep-at es rs n) (deep-at fs ss m) (deep-ts [] [] 0) e (s .2) d
 
-pub pass-out : (text : List ℕ) (i : ℕ) (x : Next) (es rs fs ss : List ℕ) (n : Nest) → ((j : ℕ) → getD text j 0 < 256) → Nexts text i (Some x) → Stepped es rs n (x .token) fs ss None → Pass text i es rs n → Is-deep text false
+pub pass-out : (text : List ℕ) (i : ℕ) (x : Next) (es rs fs ss : List ℕ) (n : Nest) → ((j : ℕ) → getD text j 0 < 256) → Nexts text i (Some x) → Stepped es rs n (x .token) fs ss None → Pass text i es rs n → Within-depth text false
 pass-out text i x es rs fs ss n z e s d p r = decided Bool text i x (deep-at es rs n) (deep-ts [] [] 0) false p z r e s d ∙ deeps-p p
 
-pub pass-end : (text : List ℕ) (i : ℕ) (es rs : List ℕ) (n : Nest) → ((j : ℕ) → getD text j 0 < 256) → lex (drop i text) ≡ None → Pass text i es rs n → Is-deep text true
+pub pass-end : (text : List ℕ) (i : ℕ) (es rs : List ℕ) (n : Nest) → ((j : ℕ) → getD text j 0 < 256) → lex (drop i text) ≡ None → Pass text i es rs n → Within-depth text true
 unfolding deep-ts
 pass-end text i es rs n z e d p r = at-last Bool text i (deep-at es rs n) (deep-ts [] [] 0) p z r e d ∙ deeps-p p

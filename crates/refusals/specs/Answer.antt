@@ -39,9 +39,9 @@ abbrev pub Stage-of : Stage → Limits → Type 0
 Stage-of s l = (l .forms-can 1 ≡ s .loops) × (l .forms-can 2 ≡ s .calls) × (l .forms-can 3 ≡ s .doors)
 
 -- a text is refused by its first reason and with its place; or it is a program that is not refused, of so many functions and so large
-abbrev pub Answered : Limits → Text → Result Checked Refusal → Type 0
-Answered l t (Err e) = (reason e ≡ turned l t) × (place-of e ≡ place t)
-Answered l t (Ok c) = (turned l t ≡ 0) × ((p : Program) × (t ≡ program p) × (c .functions ≡ length p) × (c .size ≡ size p))
+abbrev pub Listed : Limits → Text → Result Checked Refusal → Type 0
+Listed l t (Err e) = (reason e ≡ turned l t) × (place-of e ≡ place t)
+Listed l t (Ok c) = (turned l t ≡ 0) × ((p : Program) × (t ≡ program p) × (c .functions ≡ length p) × (c .size ≡ size p))
 
 -- of a program of this size and so many functions: whether it is within the limits
 abbrev pub within : Program → Bool

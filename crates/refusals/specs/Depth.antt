@@ -81,5 +81,5 @@ Stepped es rs n t es2 rs2 (Some m) =
     (m .exprs ≤ 32) × (m .blocks ≤ 32)
     × ((ts : List Token) → deep-ts (levels es (n .exprs)) (levels rs (n .blocks)) (n .lists) (t ∷ ts) ≡ deep-ts (levels es2 (m .exprs)) (levels rs2 (m .blocks)) (m .lists) ts)
 
-abbrev pub Is-deep : List ℕ → Bool → Type 0
-Is-deep text r = (p : Program) → read text ≡ program p → r ≡ all-deep p
+abbrev pub Within-depth : List ℕ → Bool → Type 0
+Within-depth text r = (p : Program) → read text ≡ program p → r ≡ all-deep p

@@ -1,6 +1,6 @@
 // Depth, with a counter for each level.
 ghost use Prim.Native.Nat.{_<_, _≤_};
-ghost use Rattle.refusals.specs.Depth.{done, ended, levels, nest, Opened, Opened-expr, Opened-block, Stepped, Is-deep};
+ghost use Rattle.refusals.specs.Depth.{done, ended, levels, nest, Opened, Opened-expr, Opened-block, Stepped, Within-depth};
 ghost use lib.ListN.{length};
 ghost use mathlib.Core.Path.{_≡_};
 use format::lexer::next;
@@ -127,7 +127,7 @@ fn step(expr_counts: &mut [u8], block_counts: &mut [u8], n: Nest, t: Token) -> O
 
 // Whether the program that the text is goes at most 32 levels deep.
 pub fn shallow(text: &[u8]) -> bool
-    ensures { λ r. ⌜ Is-deep (now (text .entry)) r ⌝ }
+    ensures { λ r. ⌜ Within-depth (now (text .entry)) r ⌝ }
 {
     let mut expr_counts = [0u8; 32];
     let mut block_counts = [0u8; 32];

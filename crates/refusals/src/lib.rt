@@ -10,7 +10,7 @@ pub mod scope;
 
 ghost use Rattle.format.specs.Format.{read};
 ghost use Rattle.model.specs.Promise.{Limits};
-ghost use Rattle.refusals.specs.Answer.{Answered, Stage-of};
+ghost use Rattle.refusals.specs.Answer.{Listed, Stage-of};
 use crate::arity::arities;
 use crate::calls::follows;
 use crate::limit::limits;
@@ -23,7 +23,7 @@ use format::scan::scan;
 
 // Whether a stage refuses a text, and why; or what is known of the program.
 pub fn check(text: &[u8], stage: Stage) -> Result<Checked, Refusal>
-    ensures { λ r. ⌜ ((l : Limits) → Stage-of stage l → Answered l (read (now (text .entry))) r) ⌝ }
+    ensures { λ r. ⌜ ((l : Limits) → Stage-of stage l → Listed l (read (now (text .entry))) r) ⌝ }
 {
     if let Err(place) = scan(text) {
         return Err(Refusal::Malformed(place));
