@@ -3,7 +3,7 @@
 
 Run: python3 tests/vectors/compiled.py [COUNT [FOLDER]]    (so many random programs, 50; and the folder of the two files)
 
-The code is that of tests/code.py and refusals are those of tests/reader.py; nothing of the proved compiler is used here.
+The code is that of tests/second_compiler.py and refusals are those of tests/reader.py; nothing of the proved compiler is used here.
 """
 import pathlib
 import random
@@ -13,7 +13,7 @@ ROOT = pathlib.Path(__file__).resolve().parents[2]
 sys.path[0] = str(ROOT / "tests")
 
 import generate  # noqa: E402
-from code import code, stack  # noqa: E402
+from second_compiler import code, stack  # noqa: E402
 from program import OPERATORS, Function, program_bytes, program_size  # noqa: E402
 from reader import Reader, refusal  # noqa: E402
 
