@@ -80,7 +80,7 @@ module _ (text table before : List ℕ) (layout : Layout) (lays : Lays text tabl
   pub no-room : length before < layout .words → Generated text before before (NoRoom (layout .words))
   no-room h p e t =
       let l : Accepted everything p × Lays-out p table layout = laid p e t in
-      ((code-of p, stack-for p, promised-code text p e t, code-length p ∙ sym (l .1 .words)), h, refl)
+      ((code-of p, stack-for p, promised-code text p e t, code-length p ∙ sym (l .1 .words)), h, omega (arith, l .1 .words, short everything p (l .0)), refl)
 
   pub generated : (after : List ℕ) (end : ℕ) → layout .words ≤ length before → Emits-p table text end before after → Generated text before after (Compiled (layout .stack) (layout .words))
   generated after end room emits p e t =

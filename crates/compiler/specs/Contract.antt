@@ -1,7 +1,7 @@
 -- What the compiler's answer says, in the words of the promises.
 use mathlib.Core.Path.{_≡_}
 use mathlib.Core.List.{List, [], _∷_}
-use Prim.Native.Nat.{ℕ, _<_, _≤_}
+use Prim.Native.Nat.{ℕ, _+_, _*_, _<_, _≤_}
 use lib.ListN.{length, take, drop}
 use Rattle.model.specs.Promise.{Limits, all, refused, compiled, Answer as Promised-answer, program, turned}
 use Rattle.model.specs.Source.{Program}
@@ -33,11 +33,16 @@ abbrev pub numbers : Promised-answer → List ℕ
 numbers (refused j k) = 0 ∷ (j ∷ (k ∷ []))
 numbers (compiled cs n) = 1 ∷ (n ∷ cs)
 
--- the answer is the promised one, and nothing is written but the code; or the promised code has no room, and nothing is written
+-- words of code that are always enough: 48 for each of the largest size, and 64
+abbrev pub most-words : ℕ
+most-words = 48 * 8192 + 64
+
+-- the answer is the promised one, and nothing is written but the code; or the promised code has no room, and nothing is written;
+-- that can't be where most-words are lent
 abbrev pub Answered : List ℕ → List ℕ → List ℕ → Answer → Type 0
 Answered text before after (Refused r) = (meaning (Refused r) after ≡ promised-answer text) × (after ≡ before)
 Answered text before after (Compiled stack n) = (meaning (Compiled stack n) after ≡ promised-answer text) × (n ≤ length before) × (drop n after ≡ drop n before)
-Answered text before after (NoRoom n) = ((cs : List ℕ) × (stack : ℕ) × (promised-answer text ≡ compiled cs stack) × (length cs ≡ n)) × (length before < n) × (after ≡ before)
+Answered text before after (NoRoom n) = ((cs : List ℕ) × (stack : ℕ) × (promised-answer text ≡ compiled cs stack) × (length cs ≡ n)) × (length before < n) × (n ≤ most-words) × (after ≡ before)
 
 -- in numbers: the promised answer's, or that there is no room
 abbrev pub Numbered : List ℕ → List ℕ → Answer → Type 0

@@ -96,7 +96,7 @@ fn run(rt: &LibcRuntime, path: &str, to: Option<&str>) -> Result<(), Failed> {
             let e = explain(r);
             refuse(rt, e.number, e.place, e.words)
         }
-        Answer::NoRoom(_) => refuse(rt, 8, 0, "the code is longer than there is room for"),
+        Answer::NoRoom(_) => unreachable(),
         Answer::Compiled(stack, words) => deliver(rt, stack, &code[0..words], to),
     }
 }
