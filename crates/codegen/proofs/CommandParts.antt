@@ -1,10 +1,9 @@
 -- The parts of a command, emitted one after the other, are the command; and commands one after the other.
-use Rattle.std.proofs.Common.{◌≡◌, ℕ, zero, suc, ◌+◌, ◌-◌, ◌*◌, ◌%◌, ◌<◌, ◌≤◌, List, [], ◌∷◌, ◌++◌, length, drop, Some, None, sym, refl, ap, ◌∙◌, subst, append-nil, add-one, arith}
+use Rattle.std.proofs.Common.{◌≡◌, ℕ, suc, ◌+◌, ◌-◌, ◌*◌, ◌%◌, ◌<◌, ◌≤◌, List, [], ◌∷◌, ◌++◌, length, drop, Some, None, sym, refl, ap, ◌∙◌, subst, append-nil, add-one, arith}
 use Rattle.std.proofs.lemmas.List.{append_assoc}
 use Rattle.model.specs.Source.{Expr, Cmd, set, store, if_then, while, call, from_door, to_door, Cmds, none, more}
-use Rattle.words.specs.declared.operator.Operator.{Operator}
 use Rattle.format.specs.Format.{bytes_e, bytes_es, bytes_v, bytes_cs}
-use Rattle.format.specs.Tokens.{cap, lex, Nexts}
+use Rattle.format.specs.Tokens.{lex, Nexts}
 use Rattle.format.specs.declared.token.Token.{Token}
 use Rattle.format.specs.declared.token.Token.TheVariants.{End, Word, Var, Load as LoadOf, Choice, Operator as Binary, Set, Store as StoreOf, If, While, Call, From, To, Function as Header}
 use Rattle.format.specs.declared.token.Next.{Next}
@@ -18,9 +17,9 @@ use Rattle.codegen.specs.declared.cursor.Cursor.{Cursor}
 use Rattle.codegen.specs.declared.transfer.Transfer.TheVariants as way
 use Rattle.codegen.specs.Frame.{load_slot, store_slot, back}
 use Rattle.codegen.specs.Expressions.{code_e, code_es, skip_unless_zero, either}
-use Rattle.codegen.specs.Commands.{store_of, slots_from, load_registers, store_registers, call_at, doors_upper, looped, code_c, code_cs}
+use Rattle.codegen.specs.Commands.{store_of, slots_from, load_registers, store_registers, call_at, doors_upper, code_c, code_cs}
 use Rattle.codegen.specs.Transfers.{transfers}
-use Rattle.codegen.specs.Valid.{ValidE, ValidEs, ValidV, ValidC, ValidCs}
+use Rattle.codegen.specs.Valid.{ValidEs, ValidC, ValidCs}
 use Rattle.codegen.specs.Emission.{limit, Emitted, Patched}
 use Rattle.codegen.specs.Emitting.{Done, by_table, EmitsE, EmitsEs, EmitsV, EmitsSet, EmitsStore, EmitsInput, EmitsOutput, EmitsCall, EmitsIf, EmitsWhile, EmitsC, EmitsCs}
 use Rattle.codegen.proofs.Emitted.{nothing, and_then, either_emitted, looped_emitted}

@@ -1,7 +1,7 @@
 -- The parts of an expression, emitted one after the other, are the expression.
-use Rattle.std.proofs.Common.{◌≡◌, ℕ, zero, suc, ◌+◌, ◌-◌, ◌*◌, ◌%◌, ◌<◌, ◌≤◌, Bool, true, false, ◌||◌, eqb, ◌⊎◌, List, [], ◌∷◌, ◌++◌, length, drop, Some, None, sym, refl, ap, ◌∙◌, subst, inl, inr, add-one, arith, eqb-true}
+use Rattle.std.proofs.Common.{◌≡◌, ℕ, suc, ◌+◌, ◌-◌, ◌%◌, true, eqb, List, [], ◌∷◌, ◌++◌, drop, Some, sym, refl, ap, ◌∙◌, subst, inl, inr, add-one, arith, eqb-true}
 use Rattle.std.proofs.lemmas.Bool.{or_cases}
-use Rattle.model.specs.Source.{Op, Expr, word, var, load, op, if_not_zero}
+use Rattle.model.specs.Source.{Expr, word, var, load, op, if_not_zero}
 use Rattle.model.specs.Promise.{good_size}
 use Rattle.words.specs.declared.operator.Operator.{Operator}
 use Rattle.words.specs.Operators.{op_of}
@@ -10,7 +10,7 @@ use Rattle.format.specs.Tokens.{cap, Nexts}
 use Rattle.format.specs.declared.token.Token.{Token}
 use Rattle.format.specs.declared.token.Token.TheVariants.{End, Word, Var, Load as LoadOf, Choice, Operator as Binary, Set, Store, If, While, Call, From, To, Function as Header}
 use Rattle.format.specs.declared.token.Next.{Next}
-use Rattle.format.proofs.Heads.{HeadsE, at_e, not_e}
+use Rattle.format.proofs.Heads.{HeadsE, at_e}
 use Rattle.riscv.specs.declared.instruction.LoadOp.{LoadOp}
 use Rattle.riscv.specs.declared.instruction.Instruction.{Instruction}
 use Rattle.riscv.specs.declared.instruction.Instruction.TheVariants.{Load}

@@ -1,26 +1,21 @@
 -- The parts of a function, emitted one after the other, are the function; and functions one after the other.
-use Rattle.std.proofs.Common.{◌≡◌, ℕ, zero, suc, ◌+◌, ◌-◌, ◌*◌, ◌/◌, ◌%◌, ◌<◌, ◌≤◌, ◌⊎◌, List, [], ◌∷◌, ◌++◌, length, get_or, drop, set, Some, None, sym, refl, ap, ◌∙◌, subst, inl, inr, append-nil, add-one, arith, get_or-set_other, get_or-set_same}
+use Rattle.std.proofs.Common.{◌≡◌, ℕ, suc, ◌+◌, ◌-◌, ◌*◌, ◌/◌, ◌%◌, ◌<◌, ◌≤◌, List, [], ◌∷◌, ◌++◌, length, get_or, drop, set, Some, sym, refl, ap, ◌∙◌, subst, inl, inr, append-nil, arith, get_or-set_other, get_or-set_same}
 use Rattle.std.proofs.lemmas.List.{append_assoc, drop-drop}
 use Rattle.std.proofs.lemmas.Bool.{cases_eq}
-use Rattle.model.specs.Source.{Function, Program, Cmds}
-use Rattle.words.specs.declared.operator.Operator.{Operator}
-use Rattle.format.specs.Format.{bytes_v, bytes_cs, bytes_p}
-use Rattle.format.specs.Tokens.{cap, Nexts}
+use Rattle.model.specs.Source.{Function, Program}
+use Rattle.format.specs.Format.{bytes_cs, bytes_p}
+use Rattle.format.specs.Tokens.{Nexts}
 use Rattle.format.specs.declared.token.Token.{Token}
 use Rattle.format.specs.declared.token.Token.TheVariants.{End, Word, Var, Load as LoadOf, Choice, Operator as Binary, Set, Store as StoreOf, If, While, Call, From, To, Function as Header}
 use Rattle.format.specs.declared.token.Next.{Next}
-use Rattle.format.proofs.Heads.{HeadsP, at_p, not_p}
+use Rattle.format.proofs.Heads.{HeadsP, at_p}
 use Rattle.riscv.specs.declared.instruction.Instruction.{Instruction}
-use Rattle.riscv.specs.declared.instruction.Instruction.TheVariants.{Jal, Jalr, Branch, Store, Immediate}
-use Rattle.riscv.specs.declared.instruction.Condition.TheVariants.{Ne}
-use Rattle.riscv.specs.declared.instruction.StoreOp.TheVariants.{Sw}
+use Rattle.riscv.specs.declared.instruction.Instruction.TheVariants.{Jalr, Immediate}
 use Rattle.riscv.specs.declared.instruction.ImmediateOp.TheVariants.{Addi}
 use Rattle.codegen.specs.declared.cursor.Cursor.{Cursor}
 use Rattle.codegen.specs.declared.layout.Frame.{Frame}
-use Rattle.codegen.specs.declared.layout.Layout.{Layout}
 use Rattle.codegen.specs.declared.transfer.Transfer.TheVariants as way
 use Rattle.codegen.specs.Frame.{load_slot, store_slot, return_slot, frame_bytes}
-use Rattle.codegen.specs.Expressions.{jump_on}
 use Rattle.codegen.specs.Commands.{slots_from, load_registers, store_registers, code_cs}
 use Rattle.codegen.specs.Functions.{zero_slots, prologue, epilogue, code_f}
 use Rattle.codegen.specs.Program.{length_f, starts, linked, stack_for}
@@ -28,7 +23,7 @@ use Rattle.codegen.specs.Transfers.{transfers}
 use Rattle.codegen.specs.Valid.{ValidF, ValidP}
 use Rattle.codegen.specs.Emission.{limit, Emitted}
 use Rattle.codegen.specs.Emitting.{Done, by_table, EmitsV, EmitsCs}
-use Rattle.codegen.specs.Layouts.{Frames, EmitsPrologue, EmitsLeave, EmitsF, Measures, words_in, LaysOut, Lays, EmitsP}
+use Rattle.codegen.specs.Layouts.{Frames, EmitsPrologue, EmitsLeave, EmitsF, Measures, words_in, Lays, EmitsP}
 use Rattle.codegen.proofs.Emitted.{nothing, and_then}
 use Rattle.codegen.proofs.SlotParts.{loads_are, stores_are}
 

@@ -1,5 +1,5 @@
 -- Loads and stores of 1, 2 or 4 bytes.
-use Rattle.std.proofs.Common.{◌≡◌, ℕ, Bool, true, false, eqb, sym, refl, ap, ◌∙◌, subst, eq-eqb, ne_eqb}
+use Rattle.std.proofs.Common.{◌≡◌, ℕ, Bool, eqb, ap, ◌∙◌, eq-eqb, ne_eqb}
 use Rattle.model.specs.Words.{pick}
 
 pub size_one : {A : Type 0} (n : ℕ) (a b c : A) → n ≡ 1 → pick (eqb n 1) a (pick (eqb n 2) b c) ≡ a

@@ -1,8 +1,7 @@
 -- Registers and slots, one after the other.
-use Rattle.std.proofs.Common.{◌≡◌, ℕ, zero, suc, ◌+◌, ◌-◌, ◌*◌, ◌%◌, ◌<◌, ◌≤◌, List, [], ◌∷◌, ◌++◌, length, drop, Some, sym, refl, ap, ◌∙◌, subst, add-one, arith}
-use Rattle.words.specs.declared.operator.Operator.{Operator}
+use Rattle.std.proofs.Common.{◌≡◌, ℕ, zero, suc, ◌+◌, ◌-◌, ◌%◌, ◌<◌, ◌≤◌, List, [], ◌∷◌, length, drop, Some, sym, refl, ap, subst, add-one, arith}
 use Rattle.format.specs.Format.{bytes_v}
-use Rattle.format.specs.Tokens.{cap, Nexts}
+use Rattle.format.specs.Tokens.{Nexts}
 use Rattle.format.specs.declared.token.Token.{Token}
 use Rattle.format.specs.declared.token.Token.TheVariants.{End, Word, Var, Load as LoadOf, Choice, Operator as Binary, Set, Store as StoreOf, If, While, Call, From, To, Function as Header}
 use Rattle.format.specs.declared.token.Next.{Next}

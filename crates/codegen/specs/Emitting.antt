@@ -1,13 +1,13 @@
 -- What each function that emits has done, for every tree whose bytes stand where it reads.
-use Rattle.std.specs.Prelude.{◌≡◌, ℕ, suc, ◌+◌, ◌-◌, ◌*◌, ◌%◌, ◌<◌, ◌≤◌, List, [], ◌∷◌, ◌++◌, length, drop, slice_index}
-use Rattle.model.specs.Source.{Expr, word, var, load, op, if_not_zero, Cmd, set, store, if_then, while, call, from_door, to_door, Cmds, none, more, Function, Program}
+use Rattle.std.specs.Prelude.{◌≡◌, ℕ, ◌<◌, ◌≤◌, List, length, drop, slice_index}
+use Rattle.model.specs.Source.{Expr, load, op, if_not_zero, Cmd, set, store, if_then, while, call, from_door, to_door, Cmds, more}
 use Rattle.words.specs.declared.operator.Operator.{Operator}
 use Rattle.words.specs.Operators.{op_of}
-use Rattle.format.specs.Format.{bytes_e, bytes_es, bytes_v, bytes_cs, bytes_p}
+use Rattle.format.specs.Format.{bytes_e, bytes_es, bytes_v, bytes_cs}
 use Rattle.codegen.specs.declared.cursor.Cursor.{Cursor}
 use Rattle.codegen.specs.declared.transfer.Transfer.{Transfer}
 use Rattle.codegen.specs.Expressions.{code_e, code_es}
-use Rattle.codegen.specs.Commands.{slots_from, call_at, code_c, code_cs}
+use Rattle.codegen.specs.Commands.{code_c, code_cs}
 use Rattle.codegen.specs.Transfers.{transfers}
 use Rattle.codegen.specs.Valid.{ValidE, ValidEs, ValidV, ValidC, ValidCs}
 use Rattle.codegen.specs.Emission.{Emitted}

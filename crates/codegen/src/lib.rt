@@ -1,4 +1,6 @@
 // The code of a program: from its bytes to words of the machine.
+#![tactic(auto)]
+
 pub mod commands;
 pub mod cursor;
 pub mod expressions;

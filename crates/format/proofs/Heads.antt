@@ -1,8 +1,8 @@
 -- The token at the front of a tree's bytes, and what the tree must have been.
-use Rattle.std.proofs.Common.{◌≡◌, ℕ, ◌+◌, ◌<◌, ◌≤◌, List, [], ◌∷◌, drop, Some, None, Option, sym, refl, ap, ◌∙◌, subst, arith}
+use Rattle.std.proofs.Common.{◌≡◌, ℕ, ◌<◌, ◌≤◌, List, [], ◌∷◌, drop, Some, None, Option, sym, refl, ap, ◌∙◌, subst, arith}
 use Rattle.model.specs.Source.{Op, add, sub, mul, mul_high, div, rem, and, or, xor, shift_right, shift_left, shift_signed, less_s, less, equal, Expr, word, var, load, op, if_not_zero, Cmd, set, store, if_then, while, call, from_door, to_door, Cmds, none, more, Function, Program}
 use Rattle.words.specs.Operators.{op_of}
-use Rattle.format.specs.Format.{tag_of, function_of, bytes_n, bytes_e, bytes_es, bytes_v, bytes_c, bytes_cs, bytes_p}
+use Rattle.format.specs.Format.{tag_of, bytes_n, bytes_e, bytes_es, bytes_v, bytes_c, bytes_cs, bytes_p}
 use Rattle.format.specs.declared.token.Token.{Token}
 use Rattle.format.specs.declared.token.Token.TheVariants.{End, Word, Var, Load, Choice, Operator as Binary, Set, Store, If, While, Call, From, To, Function as Header}
 use Rattle.format.specs.declared.token.Next.{Next}

@@ -1,13 +1,12 @@
 -- Numbers, and tokens at a place.
-use Rattle.std.proofs.Common.{◌≡◌, ℕ, zero, suc, ◌+◌, ◌-◌, ◌*◌, ◌/◌, ◌%◌, ◌<◌, ◌≤◌, min, Bool, true, false, cond, eqb, ltb, ◌⊎◌, List, [], ◌∷◌, ◌++◌, length, get_or, drop, Some, None, Option, sym, refl, ap, ◌∙◌, subst, inl, inr, arith}
+use Rattle.std.proofs.Common.{◌≡◌, ℕ, zero, suc, ◌+◌, ◌-◌, ◌/◌, ◌%◌, ◌<◌, ◌≤◌, eqb, ltb, List, ◌∷◌, length, get_or, drop, Some, None, Option, sym, refl, ap, ◌∙◌, inl, inr, arith}
 use Rattle.std.proofs.lemmas.Bool.{lt-ltb, le-ltb, ne_eqb, cond-true, cond-false, cases_lt}
 use Rattle.std.proofs.lemmas.List.{drop_more, drop_all}
 use Rattle.format.specs.Format.{bytes_f, bytes_n}
 use Rattle.format.specs.declared.token.Token.{Token}
-use Rattle.format.specs.declared.token.Token.TheVariants.{End, Word, Var, Load, Choice, Operator as Binary, Set, Store, If, While, Call, From, To, Function as Header}
 use Rattle.format.specs.declared.token.Number.{Number}
 use Rattle.format.specs.declared.token.Next.{Next}
-use Rattle.format.specs.Tokens.{cap, further, read_n, count, operator_at, binary, token_of, with_rest, one, one_more, two, lex_with, lex, ReadN, Ending, Nexts}
+use Rattle.format.specs.Tokens.{further, read_n, count, operator_at, binary, token_of, with_rest, one, one_more, two, lex_with, lex, ReadN, Ending, Nexts}
 
 low : (b : ℕ) (bs : List ℕ) → b < 128 → read_n (b ∷ bs) ≡ Some (b, bs)
 low b bs h = cond-true (ltb b 128) _ _ (lt-ltb b 128 h)

@@ -1,6 +1,6 @@
 -- A program as tokens, one for each part in the order of its bytes.
-use Rattle.std.specs.Prelude.{◌≡◌, ℕ, zero, suc, ◌+◌, ◌*◌, ◌<◌, ◌≤◌, min, Bool, true, false, cond, ◌&&◌, ◌||◌, List, [], ◌∷◌, ◌++◌, length, drop, Some, None, Option, ◌==◌, nat_lt}
-use Rattle.model.specs.Source.{Op, add, sub, mul, mul_high, div, rem, and, or, xor, shift_right, shift_left, shift_signed, less_s, less, equal, Expr, word, var, load, op, if_not_zero, Cmd, set, store, if_then, while, call, from_door, to_door, Cmds, none, more, Function, Program}
+use Rattle.std.specs.Prelude.{◌≡◌, ℕ, zero, suc, ◌+◌, ◌*◌, ◌<◌, ◌≤◌, min, cond, List, [], ◌∷◌, length, drop, Some, None, Option, ◌==◌, nat_lt}
+use Rattle.model.specs.Source.{Op, add, sub, mul, mul_high, div, rem, and, or, xor, shift_right, shift_left, shift_signed, less_s, less, equal, Expr, word, var, load, op, if_not_zero, Cmd, set, store, if_then, while, call, from_door, to_door, Cmds, none, more, Program}
 use Rattle.words.specs.declared.operator.Operator.{Operator}
 use Rattle.words.specs.declared.operator.Operator.TheVariants.{Add, Sub, Mul, MulHigh, Div, Rem, And, Or, Xor, ShiftRight, ShiftLeft, ShiftSigned, LessSigned, Less, Equal}
 use Rattle.format.specs.declared.token.Token.{Token}

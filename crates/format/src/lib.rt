@@ -1,4 +1,6 @@
 // The bytes of programs: a lexer, and a scan that says where bytes cease to be a program.
+#![tactic(auto)]
+
 pub mod expected;
 pub mod lexer;
 pub mod number;

@@ -1,22 +1,21 @@
 -- Arguments and results that fit: tables of functions, and calls held against them.
-use Rattle.std.proofs.Common.{◌≡◌, ℕ, zero, suc, ◌+◌, ◌-◌, ◌<◌, ◌≤◌, min, Bool, true, false, cond, ◌&&◌, eqb, ltb, leb, ◌≢◌, ◌⊎◌, List, [], ◌∷◌, length, get_or, drop, set as put_at, Some, None, sym, refl, ap, ◌∙◌, subst, inl, inr, add-one, arith, length-set, get_or-set_other, get_or-set_same}
-use Rattle.std.proofs.lemmas.Bool.{both_ways, ltb-true, leb-true, lt-ltb, le-ltb, le-leb, lt-leb, cases_lt, cases_eq, cases_Bool, and_parts, and_from, and_right, cond-true, cond-false}
-use Rattle.model.specs.Source.{Cmd, set, store, if_then, while, call, from_door, to_door, Cmds, none, more, Function, Program, function_at}
+use Rattle.std.proofs.Common.{◌≡◌, ℕ, zero, suc, ◌+◌, ◌-◌, ◌<◌, ◌≤◌, Bool, true, false, cond, ◌&&◌, eqb, ltb, leb, ◌≢◌, List, [], ◌∷◌, length, get_or, drop, set as put_at, Some, None, sym, refl, ap, ◌∙◌, inl, inr, arith, length-set, get_or-set_other, get_or-set_same}
+use Rattle.std.proofs.lemmas.Bool.{both_ways, ltb-true, leb-true, lt-ltb, le-ltb, le-leb, cases_lt, cases_eq, cases_Bool, and_parts, and_from, and_right, cond-true, cond-false}
+use Rattle.model.specs.Source.{Cmd, set, store, if_then, while, call, from_door, to_door, Cmds, none, more, Program, function_at}
 use Rattle.model.specs.Promise.{program, after_c, after_cs, after_in, fits, fits_c, fits_cs, fits_in, first_fits}
 use Rattle.format.specs.Format.{read, bytes_of}
 use Rattle.format.specs.declared.token.Token.{Token}
 use Rattle.format.specs.declared.token.Token.TheVariants.{End, Word, Var, Load, Choice, Operator as Binary, Set, Store, If, While, Call, From, To, Function as Header}
 use Rattle.format.specs.declared.token.Next.{Next}
-use Rattle.format.specs.Tokens.{cap, Nexts, tokens}
+use Rattle.format.specs.Tokens.{cap, Nexts}
 use Rattle.format.proofs.Sound.{one_way_to_write}
 use Rattle.format.proofs.Heads.{HeadsP, at_p, not_p}
 use Rattle.refusals.specs.declared.event.Event.{Event}
 use Rattle.refusals.specs.declared.event.Event.TheVariants.{Header as Headed, Call as Called}
 use Rattle.refusals.specs.declared.event.Found.{Found}
-use Rattle.refusals.specs.declared.event.Mode.TheVariants.{Body}
-use Rattle.refusals.specs.Events.{events, NextEvent, events_c, events_cs, events_p, opens_v, later_v, later}
+use Rattle.refusals.specs.Events.{NextEvent, events_c, events_cs, events_p, opens_v, later}
 use Rattle.refusals.specs.Arity.{block, first_t, First, small_v, small, every, arguments_v, results_v, stored, loaded, Loaded, in_table, fit_v, BlockFits, Arities}
-use Rattle.refusals.proofs.Capped.{cap_eqb, cap_leb, and_assoc, is_true, is_false, both}
+use Rattle.refusals.proofs.Capped.{cap_eqb, cap_leb, is_true, is_false, both}
 use Rattle.refusals.proofs.Eventful.{Pass, pass_on, pass_out, pass_end}
 use Rattle.refusals.proofs.Callees.{eventful_p, later_p}
 

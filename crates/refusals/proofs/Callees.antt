@@ -1,15 +1,14 @@
 -- The events of a program, and calls of later functions.
-use Rattle.std.proofs.Common.{◌≡◌, ℕ, zero, suc, ◌+◌, ◌<◌, ◌≤◌, Bool, true, false, ◌&&◌, ltb, leb, List, [], ◌∷◌, ◌++◌, length, get_or, drop, Some, None, sym, refl, ap, ◌∙◌, add-one, arith}
-use Rattle.model.specs.Source.{Expr, word, var, load, op, if_not_zero, Cmd, set, store, if_then, while, call, from_door, to_door, Cmds, none, more, Function, Program}
-use Rattle.model.specs.Promise.{program, after_c, after_cs, after_in}
-use Rattle.format.specs.Format.{read}
+use Rattle.std.proofs.Common.{◌≡◌, ℕ, suc, ◌+◌, ◌<◌, ◌≤◌, Bool, true, false, ◌&&◌, List, [], ◌∷◌, length, get_or, Some, None, sym, refl, ap, ◌∙◌, add-one, arith}
+use Rattle.model.specs.Source.{Expr, word, var, load, op, if_not_zero, Cmd, set, store, if_then, while, call, from_door, to_door, Cmds, none, more, Program}
+use Rattle.model.specs.Promise.{after_c, after_cs, after_in}
 use Rattle.format.specs.declared.token.Token.{Token}
-use Rattle.format.specs.Tokens.{cap, lex, tokens_e, tokens_es, tokens_v, tokens_c, tokens_cs, tokens_p, tokens}
+use Rattle.format.specs.Tokens.{cap, tokens_e, tokens_es, tokens_v, tokens_c, tokens_cs, tokens}
 use Rattle.refusals.specs.declared.event.Event.{Event}
 use Rattle.refusals.specs.declared.event.Event.TheVariants.{Header as Headed, Call as Called}
 use Rattle.refusals.specs.declared.event.Found.{Found}
 use Rattle.refusals.specs.declared.event.Mode.TheVariants.{Body, Results, Arguments, Variables}
-use Rattle.refusals.specs.Events.{up, after, gives, events, NextEvent, events_c, events_cs, events_p, opens_v, later_v, later, Follows}
+use Rattle.refusals.specs.Events.{events, NextEvent, events_c, events_cs, events_p, opens_v, later_v, later, Follows}
 use Rattle.refusals.proofs.Capped.{cap_ltb, leb_cap, both, is_true, is_false}
 use Rattle.refusals.proofs.Eventful.{Pass, pass_on, pass_out, pass_end}
 

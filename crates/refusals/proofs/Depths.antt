@@ -1,15 +1,15 @@
 -- Depth, over the tokens of a program, and counters of levels in an array.
-use Rattle.std.proofs.Common.{◌≡◌, ℕ, zero, suc, ◌+◌, ◌-◌, ◌<◌, ◌≤◌, Bool, true, false, ◌&&◌, ltb, ◌≢◌, ◌⊎◌, List, [], ◌∷◌, length, get_or, drop, set as put_at, Some, None, Option, sym, refl, ap, ◌∙◌, subst, inl, inr, add-one, arith, get_or-set_other, get_or-set_same}
+use Rattle.std.proofs.Common.{◌≡◌, ℕ, zero, suc, ◌+◌, ◌-◌, ◌<◌, ◌≤◌, Bool, true, false, ◌&&◌, ltb, ◌≢◌, List, [], ◌∷◌, length, get_or, drop, set as put_at, Some, None, Option, sym, refl, ap, ◌∙◌, subst, inl, inr, add-one, arith, get_or-set_other, get_or-set_same}
 use Rattle.std.proofs.lemmas.Bool.{lt-ltb, le-ltb, cases_lt}
-use Rattle.model.specs.Source.{Expr, word, var, load, op, if_not_zero, Cmd, set, store, if_then, while, call, from_door, to_door, Cmds, none, more, Function, Program}
+use Rattle.model.specs.Source.{Expr, word, var, load, op, if_not_zero, Cmd, set, store, if_then, while, call, from_door, to_door, Cmds, none, more, Program}
 use Rattle.model.specs.Promise.{deep_e, deep_es, deep_c, deep_cs, all_deep}
 use Rattle.words.specs.declared.operator.Operator.{Operator}
 use Rattle.format.specs.declared.token.Token.{Token}
 use Rattle.format.specs.declared.token.Token.TheVariants.{End, Word, Var, Load, Choice, Operator as Binary, Set, Store, If, While, Call, From, To, Function as Header}
 use Rattle.format.specs.declared.token.Next.{Next}
-use Rattle.format.specs.Tokens.{lex, Nexts, tokens_e, tokens_es, tokens_v, tokens_c, tokens_cs, tokens_p, tokens}
+use Rattle.format.specs.Tokens.{lex, Nexts, tokens_e, tokens_es, tokens_v, tokens_c, tokens_cs, tokens}
 use Rattle.refusals.specs.declared.depth.Nest.{Nest}
-use Rattle.refusals.specs.Depth.{done, ended, deep_ts, levels, nest, Opened, OpenedExpr, OpenedBlock, Stepped, WithinDepth}
+use Rattle.refusals.specs.Depth.{done, ended, deep_ts, levels, nest, OpenedExpr, OpenedBlock, Stepped, WithinDepth}
 use Rattle.refusals.proofs.Capped.{both, three, is_true, is_false}
 use Rattle.refusals.proofs.Passes.{Remains, one_more, decided, at_last}
 

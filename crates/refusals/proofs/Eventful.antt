@@ -1,5 +1,5 @@
 -- Events in the tokens of a text, one after the other.
-use Rattle.std.proofs.Common.{◌≡◌, ℕ, zero, suc, ◌+◌, ◌*◌, ◌^◌, ◌<◌, ◌≤◌, List, [], ◌∷◌, ◌++◌, length, get_or, drop, Some, None, Option, sym, refl, ap, ◌∙◌, subst, arith}
+use Rattle.std.proofs.Common.{◌≡◌, ℕ, zero, suc, ◌*◌, ◌<◌, ◌≤◌, List, [], ◌∷◌, ◌++◌, get_or, drop, Some, None, sym, refl, ap, ◌∙◌, subst, arith}
 use Rattle.model.specs.Source.{Program}
 use Rattle.model.specs.Promise.{program}
 use Rattle.format.specs.Format.{read}
@@ -12,9 +12,8 @@ use Rattle.refusals.specs.declared.event.Event.{Event}
 use Rattle.refusals.specs.declared.event.Found.{Found}
 use Rattle.refusals.specs.declared.event.Mode.{Mode}
 use Rattle.refusals.specs.declared.event.Mode.TheVariants.{Body, Results, Arguments, Variables}
-use Rattle.refusals.specs.declared.event.Step.{Step}
 use Rattle.refusals.specs.declared.event.Step.TheVariants.{Goes, Gives}
-use Rattle.refusals.specs.Events.{up, at_end, after, gives, events, Stepped, Counted, NextEvent}
+use Rattle.refusals.specs.Events.{up, at_end, after, events, Stepped, NextEvent}
 use Rattle.refusals.proofs.Passes.{Left, Remains, front, none_left, left_more}
 
 -- counters stay below the place

@@ -1,5 +1,5 @@
 -- One pass over the tokens of a text: what is still to be made of the tokens that are left makes what was asked of all.
-use Rattle.std.proofs.Common.{◌≡◌, ℕ, ◌<◌, List, [], ◌∷◌, get_or, drop, Some, None, Option, sym, refl, ap, ◌∙◌, subst}
+use Rattle.std.proofs.Common.{◌≡◌, ℕ, ◌<◌, List, [], ◌∷◌, get_or, drop, Some, None, sym, refl, ap, ◌∙◌, subst}
 use Rattle.model.specs.Source.{Program}
 use Rattle.model.specs.Promise.{program}
 use Rattle.format.specs.Format.{read}

@@ -1,15 +1,14 @@
 -- Ranges and the size of a program, over its tokens.
-use Rattle.std.proofs.Common.{◌≡◌, ℕ, ◌+◌, ◌<◌, ◌≤◌, Bool, true, false, ◌&&◌, ltb, leb, List, [], ◌∷◌, length, get_or, drop, Some, None, sym, refl, ap, ◌∙◌, arith}
-use Rattle.model.specs.Source.{Expr, word, var, load, op, if_not_zero, Cmd, set, store, if_then, while, call, from_door, to_door, Cmds, none, more, Function, Program}
-use Rattle.model.specs.Promise.{Limits, program, good_size, range_e, range_es, range_c, range_cs, all_range, size_e, size_es, size_c, size_cs, size}
-use Rattle.format.specs.Format.{read}
+use Rattle.std.proofs.Common.{◌≡◌, ℕ, ◌+◌, ◌<◌, ◌≤◌, Bool, true, false, ◌&&◌, ltb, leb, List, [], ◌∷◌, length, get_or, drop, Some, None, sym, refl, ◌∙◌, arith}
+use Rattle.model.specs.Source.{Expr, word, var, load, op, if_not_zero, Cmd, set, store, if_then, while, call, from_door, to_door, Cmds, none, more, Program}
+use Rattle.model.specs.Promise.{Limits, good_size, range_e, range_es, range_c, range_cs, all_range, size_e, size_es, size_c, size_cs, size}
 use Rattle.format.specs.declared.token.Token.{Token}
 use Rattle.format.specs.declared.token.Token.TheVariants.{End, Word, Var, Load, Choice, Operator as Binary, Set, Store, If, While, Call, From, To, Function as Header}
 use Rattle.format.specs.declared.token.Next.{Next}
-use Rattle.format.specs.Tokens.{cap, lex, Nexts, tokens_e, tokens_es, tokens_v, tokens_c, tokens_cs, tokens_p, tokens}
+use Rattle.format.specs.Tokens.{lex, Nexts, tokens_e, tokens_es, tokens_v, tokens_c, tokens_cs, tokens}
 use Rattle.refusals.specs.declared.refusal.Stage.{Stage}
 use Rattle.refusals.specs.Answer.{StageOf}
-use Rattle.refusals.specs.Tests.{range_t, size_t, Tells, Ranges}
+use Rattle.refusals.specs.Tests.{range_t, size_t, Ranges}
 use Rattle.refusals.proofs.Capped.{cap_ltb, cap_leb, cap_size, and_assoc, both, three, is_true, is_false}
 use Rattle.refusals.proofs.Passes.{Remains, one_more, decided, at_last}
 

@@ -1,15 +1,14 @@
 -- Variables that are there, and the number of functions, over the tokens of a program.
-use Rattle.std.proofs.Common.{◌≡◌, ℕ, suc, ◌+◌, ◌<◌, ◌≤◌, Bool, true, false, ◌&&◌, ltb, leb, List, [], ◌∷◌, length, get_or, drop, Some, None, sym, refl, ap, ◌∙◌, arith}
+use Rattle.std.proofs.Common.{◌≡◌, ℕ, ◌+◌, ◌<◌, ◌≤◌, Bool, true, false, ◌&&◌, ltb, leb, List, [], ◌∷◌, length, get_or, drop, Some, None, sym, refl, ◌∙◌, arith}
 use Rattle.std.proofs.lemmas.Bool.{and_parts, leb-true}
-use Rattle.model.specs.Source.{Expr, word, var, load, op, if_not_zero, Cmd, set, store, if_then, while, call, from_door, to_door, Cmds, none, more, Function, Program}
-use Rattle.model.specs.Promise.{Limits, program, range_cs, all_range, vars_e, vars_es, all_vars, vars_c, vars_cs, vars_in}
-use Rattle.format.specs.Format.{read}
+use Rattle.model.specs.Source.{Expr, word, var, load, op, if_not_zero, Cmd, set, store, if_then, while, call, from_door, to_door, Cmds, none, more, Program}
+use Rattle.model.specs.Promise.{Limits, range_cs, all_range, vars_e, vars_es, all_vars, vars_c, vars_cs, vars_in}
 use Rattle.format.specs.declared.token.Token.{Token}
 use Rattle.format.specs.declared.token.Token.TheVariants.{End, Word, Var, Load, Choice, Operator as Binary, Set, Store, If, While, Call, From, To, Function as Header}
 use Rattle.format.specs.declared.token.Next.{Next}
-use Rattle.format.specs.Tokens.{cap, lex, Nexts, tokens_e, tokens_es, tokens_v, tokens_c, tokens_cs, tokens_p, tokens}
-use Rattle.refusals.specs.Tests.{vars_t, scope_t, header_t, Tells, Scopes}
-use Rattle.refusals.proofs.Capped.{cap_ltb, cap_leb, and_assoc, both, three, is_true, is_false}
+use Rattle.format.specs.Tokens.{cap, lex, Nexts, tokens_e, tokens_es, tokens_v, tokens_c, tokens_cs, tokens}
+use Rattle.refusals.specs.Tests.{vars_t, scope_t, header_t, Scopes}
+use Rattle.refusals.proofs.Capped.{cap_ltb, cap_leb, both, three, is_true, is_false}
 use Rattle.refusals.proofs.Passes.{Remains, one_more, decided, at_last}
 
 abbrev pub scoped : ℕ → List Token → Bool

@@ -1,5 +1,5 @@
 -- The depth of expressions and of blocks, over tokens.
-use Rattle.std.specs.Prelude.{◌≡◌, ℕ, zero, suc, ◌+◌, ◌<◌, ◌≤◌, Bool, true, false, cond, ◌&&◌, List, [], ◌∷◌, ◌++◌, length, Some, None, Option, nat_lt, slice_index}
+use Rattle.std.specs.Prelude.{◌≡◌, ℕ, zero, suc, ◌<◌, ◌≤◌, Bool, true, false, ◌&&◌, List, [], ◌∷◌, length, Some, None, Option, nat_lt, slice_index}
 use Rattle.model.specs.Source.{Program}
 use Rattle.model.specs.Promise.{program, all_deep}
 use Rattle.format.specs.Format.{read}

@@ -1,5 +1,5 @@
 -- Tests on the tokens of a program, one after the other.
-use Rattle.std.specs.Prelude.{◌≡◌, ℕ, zero, suc, ◌+◌, Bool, true, false, ◌&&◌, List, [], ◌∷◌, length, Some, None, Option, nat_le, nat_lt}
+use Rattle.std.specs.Prelude.{◌≡◌, ℕ, Bool, true, false, ◌&&◌, List, length, Some, None, Option, nat_le, nat_lt}
 use Rattle.model.specs.Source.{Program}
 use Rattle.model.specs.Promise.{Limits, program, good_size, all_range, vars_in, size}
 use Rattle.format.specs.Format.{read}

@@ -1,4 +1,6 @@
 // The list of refusals: every text is refused by the first reason that applies, and by nothing else.
+#![tactic(auto)]
+
 pub mod arity;
 pub mod calls;
 pub mod depth;

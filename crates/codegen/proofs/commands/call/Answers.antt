@@ -1,4 +1,4 @@
-use Rattle.std.proofs.Common.{arith, rules}
+use Rattle.std.proofs.Common.{rules}
 use Rattle.codegen.proofs.CommandParts.{call_done}
 use Rattle.codegen.proofs.commands.call.Goals as goal
 

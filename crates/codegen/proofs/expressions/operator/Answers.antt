@@ -1,8 +1,5 @@
-use Rattle.std.proofs.Common.{List, [], ◌∷◌, sym, ap, ◌∙◌, subst, arith}
-use Rattle.riscv.specs.declared.instruction.RegisterOp.{RegisterOp}
+use Rattle.std.proofs.Common.{List, sym, subst, arith}
 use Rattle.riscv.specs.declared.instruction.Instruction.{Instruction}
-use Rattle.words.specs.Operators.{op_of}
-use Rattle.codegen.specs.Expressions.{code_op, both}
 use Rattle.codegen.specs.Emission.{Emitted}
 use Rattle.codegen.proofs.Emitted.{and_then}
 use Rattle.codegen.proofs.Operators.{equal_code, other_code}

@@ -1,4 +1,3 @@
-use Rattle.std.proofs.Common.{arith}
 use Rattle.format.proofs.Heads.{not_p}
 use Rattle.std.proofs.lemmas.List.{take_rest}
 use Rattle.codegen.proofs.FunctionParts.{none_yet, all_emitted, one_more, none_stands}

@@ -1,4 +1,4 @@
-use Rattle.std.proofs.Common.{◌-◌, ◌≤◌, length}
+use Rattle.std.proofs.Common.{◌-◌, length}
 use Rattle.codegen.proofs.FunctionParts.{SoFar}
 use Rattle.codegen.proofs.functions.emit.Given as goal
 

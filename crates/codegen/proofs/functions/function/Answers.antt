@@ -1,4 +1,4 @@
-use Rattle.std.proofs.Common.{arith, rules}
+use Rattle.std.proofs.Common.{arith}
 use Rattle.codegen.proofs.FunctionParts.{function_done}
 use Rattle.codegen.proofs.functions.function.Goals as goal
 

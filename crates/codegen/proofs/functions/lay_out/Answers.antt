@@ -1,7 +1,7 @@
 use Rattle.std.proofs.Common.{arith}
 use Rattle.std.proofs.lemmas.List.{take_rest}
 use Rattle.format.proofs.Heads.{not_p}
-use Rattle.codegen.proofs.FunctionParts.{none_laid, all_laid, one_more_laid, none_stands, none_left}
+use Rattle.codegen.proofs.FunctionParts.{all_laid, one_more_laid, none_stands, none_left}
 use Rattle.codegen.proofs.functions.lay_out.Goals as goal
 
 pub returns-in_default : goal.returns-in_default

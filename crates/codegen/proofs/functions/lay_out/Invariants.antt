@@ -1,4 +1,4 @@
-use Rattle.std.proofs.Common.{◌≡◌, ◌-◌, ◌*◌, ◌≤◌, length}
+use Rattle.std.proofs.Common.{◌-◌, ◌*◌, ◌≤◌}
 use Rattle.codegen.proofs.FunctionParts.{Laid}
 use Rattle.codegen.proofs.functions.lay_out.Given as goal
 

@@ -1,6 +1,6 @@
-use Rattle.std.proofs.Common.{◌≡◌, ℕ, suc, ◌+◌, ◌-◌, ◌<◌, ◌≤◌, List, [], ◌∷◌, ◌++◌, length, get_or, take, drop, set, sym, refl, ap, ◌∙◌, add-one, arith}
+use Rattle.std.proofs.Common.{◌≡◌, ℕ, suc, ◌-◌, ◌<◌, List, [], ◌∷◌, ◌++◌, length, take, drop, set, sym, ap, ◌∙◌, add-one, arith}
 use borrow.Rule.Slice.PartMut.{put_mid}
-use Rattle.std.proofs.lemmas.List.{take_rest, length-drop, length-set, length-append, length-take, append-nil, drop_all, set_split, drop_more, length-take-le}
+use Rattle.std.proofs.lemmas.List.{take_rest, length-drop, length-append, length-take, append-nil, drop_all, set_split, drop_more}
 use Rattle.codegen.proofs.output.patch.Goals as goal
 
 -- the first word of a part that starts at `pos` is the word at `pos`

@@ -1,4 +1,4 @@
-use Rattle.std.proofs.Common.{◌≡◌, ℕ, sym, ap, ◌∙◌, arith}
+use Rattle.std.proofs.Common.{ℕ, sym, ap, ◌∙◌, arith}
 use Rattle.format.specs.Tokens.{binary, token_of}
 use Rattle.format.proofs.Numbers.{no_tag}
 use Rattle.format.proofs.lexer.token.Goals as goal

@@ -1,4 +1,4 @@
-use Rattle.std.proofs.Common.{◌≡◌, ℕ, ◌+◌, ◌-◌, ◌*◌, ◌≤◌, length}
+use Rattle.std.proofs.Common.{◌-◌, ◌*◌, ◌≤◌, length}
 use Rattle.format.specs.Scan.{stack}
 use Rattle.format.proofs.Scans.{Runs}
 use Rattle.format.proofs.scan.scan.Given as goal

@@ -1,4 +1,4 @@
-use Rattle.std.proofs.Common.{ℕ, ◌-◌, ◌≤◌, length}
+use Rattle.std.proofs.Common.{◌-◌, ◌≤◌, length}
 use Rattle.refusals.proofs.Arities.{Fitting}
 use Rattle.refusals.proofs.arity.block_fits.Given as goal
 

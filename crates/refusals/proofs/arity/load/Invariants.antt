@@ -1,4 +1,4 @@
-use Rattle.std.proofs.Common.{◌≡◌, ℕ, ◌-◌, ◌≤◌, length}
+use Rattle.std.proofs.Common.{◌≡◌, ◌-◌, ◌≤◌, length}
 use Rattle.refusals.specs.Arity.{block}
 use Rattle.refusals.proofs.Arities.{Filling}
 use Rattle.refusals.proofs.arity.load.Given as goal

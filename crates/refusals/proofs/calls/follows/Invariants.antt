@@ -1,4 +1,4 @@
-use Rattle.std.proofs.Common.{ℕ, ◌-◌, ◌≤◌, length}
+use Rattle.std.proofs.Common.{◌-◌, ◌≤◌, length}
 use Rattle.refusals.proofs.Callees.{Later}
 use Rattle.refusals.proofs.calls.follows.Given as goal
 

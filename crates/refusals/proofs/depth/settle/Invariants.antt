@@ -1,4 +1,4 @@
-use Rattle.std.proofs.Common.{◌≡◌, ℕ, ◌≤◌}
+use Rattle.std.proofs.Common.{◌≡◌, ◌≤◌}
 use Rattle.refusals.specs.Depth.{done, levels}
 use Rattle.refusals.proofs.depth.settle.Given as goal
 

@@ -1,4 +1,4 @@
-use Rattle.std.proofs.Common.{ℕ, ◌-◌, ◌≤◌, length}
+use Rattle.std.proofs.Common.{◌-◌, ◌≤◌, length}
 use Rattle.refusals.proofs.Eventful.{Counts, Coming}
 use Rattle.refusals.proofs.event.next_event.Given as goal
 

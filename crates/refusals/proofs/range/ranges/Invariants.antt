@@ -1,4 +1,4 @@
-use Rattle.std.proofs.Common.{ℕ, ◌-◌, ◌≤◌, length}
+use Rattle.std.proofs.Common.{◌-◌, ◌≤◌, length}
 use Rattle.refusals.proofs.Ranges.{Pass}
 use Rattle.refusals.proofs.range.ranges.Given as goal
 
