@@ -1,12 +1,12 @@
 -- What was emitted is the code of the program; and the compiler's answer is the promised one.
-use Rattle.std.proofs.Common.{◌≡◌, ℕ, zero, suc, ◌+◌, ◌<◌, ◌≤◌, Bool, true, false, eqb, List, [], ◌∷◌, ◌++◌, length, get_or, take, drop, Ok, Err, sym, refl, ap, ◌∙◌, subst, arith, eq-eqb, ne_eqb}
+use Rattle.std.proofs.Common.{◌≡◌, ℕ, ◌+◌, ◌<◌, ◌≤◌, eqb, List, [], ◌++◌, length, get_or, take, drop, Ok, sym, refl, ap, ◌∙◌, subst, arith, eq-eqb, ne_eqb}
 use Rattle.std.proofs.lemmas.List.{take_at, drop_at}
 use Rattle.model.specs.Source.{Program}
 use Rattle.model.specs.Promise.{Limits, refused, compiled, Text, program, turned, place}
 use Rattle.model.proofs.Picks.{pick_true, pick_false}
 use Rattle.model.proofs.Accepted.{Accepted, accepted}
 use Rattle.riscv.specs.declared.instruction.Instruction.{Instruction}
-use Rattle.codegen.specs.Program.{starts, linked, words_of, code_of, stack_for, made, compile}
+use Rattle.codegen.specs.Program.{starts, linked, code_of, stack_for, made, compile}
 use Rattle.codegen.specs.Emission.{limit, Wrote, Emitted}
 use Rattle.codegen.specs.Emitting.{by_table}
 use Rattle.codegen.specs.declared.layout.Layout.{Layout}

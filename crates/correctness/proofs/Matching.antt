@@ -1,7 +1,7 @@
 -- The relation of the simulation: a machine in a function's frame matches a state of the program.
 use Rattle.std.proofs.Common.{◌≡◌, ℕ, suc, ◌+◌, ◌*◌, ◌<◌, ◌≤◌, true, ◌⊎◌, List, [], ◌∷◌, ◌++◌, length, sym, refl, ap, ◌∙◌, subst, inl, inr, arith}
 use Rattle.std.proofs.lemmas.Bool.{cases_lt, cases_eq}
-use Rattle.model.specs.Words.{plus, many, nth, set_at, Act}
+use Rattle.model.specs.Words.{plus, nth, set_at, Act}
 use Rattle.model.specs.Source.{Expr, Cmd, Cmds, more, Program, World, State, Out, stuck, run, value, with_var}
 use Rattle.model.specs.Machine.{Board, Cpu}
 use Rattle.model.specs.Promise.{Limits, fine_cpu}
