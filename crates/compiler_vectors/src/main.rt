@@ -1,6 +1,8 @@
 // Compiles the programs in the lines of the input, each its bytes in hexadecimal, and prints what comes out.
 // A line that begins with # is printed as it is. tests/vectors/compiled.py, which has a compiler of its own, makes the
 // lines and what is expected of them.
+#![tactic(auto)]
+
 mod code;
 mod hexadecimal;
 

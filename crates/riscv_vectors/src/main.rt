@@ -1,5 +1,7 @@
 // Prints, for each word in a line of the input, the instruction that it is decoded to, or that there is none.
 // Words and instructions are an assembler's and a disassembler's: tests/vectors/instructions.py makes both files.
+#![tactic(auto)]
+
 mod names;
 
 use names::{condition_name, immediate_name, load_name, register_name, shift_name, store_name};

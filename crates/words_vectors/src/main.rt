@@ -1,4 +1,6 @@
 // Prints what each operator makes of edges; tests/vectors/operators.c, a program of its own, makes what is expected.
+#![tactic(auto)]
+
 use std::io;
 use words::evaluation::apply;
 use words::operator::Operator;

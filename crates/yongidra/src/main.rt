@@ -1,4 +1,6 @@
 // yongidra FILE: compiles the program in a file, and prints the stack that its code needs and the code.
+#![tactic(auto)]
+
 mod command_line;
 mod explain;
 mod listing;
@@ -10,6 +12,7 @@ use explain::explain;
 use listing::{image, listing};
 use std::alloc::AllocError;
 use std::io::Write;
+use std::process::ExitCode;
 use std::{env, fs, io};
 
 // Code is never longer than this: 48 words for each of the size, which is at most 8192, and 64 more.
@@ -119,14 +122,21 @@ fn asked(rt: &HostRuntime, args: &[String]) -> Result<(), Failed> {
     }
 }
 
-fn main(rt: HostRuntime) -> Result<(), Failed> {
-    let args = match env::args(&rt) {
+fn started(rt: &HostRuntime) -> Result<(), Failed> {
+    let args = match env::args(rt) {
         Ok(args) => args,
-        Err(e) => return fail(&rt, "command line", e),
+        Err(e) => return fail(rt, "command line", e),
     };
     let args: Result<Vec<String>, AllocError> = args.collect(rt.alloc());
     match args {
-        Ok(args) => asked(&rt, args.as_slice()),
-        Err(e) => fail(&rt, "command line", io::Error::from(e)),
+        Ok(args) => asked(rt, args.as_slice()),
+        Err(e) => fail(rt, "command line", io::Error::from(e)),
+    }
+}
+
+fn main(rt: HostRuntime) -> ExitCode {
+    match started(&rt) {
+        Ok(()) => ExitCode::SUCCESS,
+        Err(Failed) => ExitCode::FAILURE,
     }
 }
