@@ -1,7 +1,7 @@
 #!/usr/bin/env python3
 """The examples, compiled and run on QEMU's RISC-V: their acts are compared with those worked out by hand.
 
-Run: /usr/bin/python3 tests/examples_on_qemu.py target/bin/yongidra
+Run: /usr/bin/python3 tests/examples_on_qemu.py crates/yongidra/out/yongidra
 Needs Debian's python3-unicorn. Status 1 if any differs.
 """
 import pathlib

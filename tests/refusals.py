@@ -1,7 +1,7 @@
 #!/usr/bin/env python3
 """What is refused, and why: edges, and programs and bytes changed at random, compared with an oracle of its own.
 
-Run: python3 tests/refusals.py target/bin/yongidra [COUNT [SEED]]
+Run: python3 tests/refusals.py crates/yongidra/out/yongidra [COUNT [SEED]]
 Prints one line for each text that differs, and a summary; status 1 if any did.
 """
 import collections

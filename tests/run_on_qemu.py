@@ -1,7 +1,7 @@
 #!/usr/bin/env python3
 """Random programs: what the compiled code does on QEMU's RISC-V is compared with what the program does.
 
-Run: /usr/bin/python3 tests/run_on_qemu.py target/bin/yongidra [COUNT [SEED]]
+Run: /usr/bin/python3 tests/run_on_qemu.py crates/yongidra/out/yongidra [COUNT [SEED]]
 Needs Debian's python3-unicorn. Prints one line for each program that differs, and a summary; status 1 if any did.
 """
 import collections

@@ -2,7 +2,7 @@
 """Would a wrong compiler be noticed? Each change below is made to every word that it fits, in the code of each program,
 and run_on_qemu's comparison has to find a difference in at least one program.
 
-Run: /usr/bin/python3 tests/sensitivity.py target/bin/yongidra [COUNT [SEED]]
+Run: /usr/bin/python3 tests/sensitivity.py crates/yongidra/out/yongidra [COUNT [SEED]]
 Prints in how many programs each change was there, and in how many it was noticed; status 1 if one never was.
 """
 import sys

@@ -1,6 +1,6 @@
 /* What the operators make of edges, worked out by a C compiler: the stdout that is expected of crates/words_vectors.
  *
- * cc -O1 -Wall -o target/operators tests/vectors/operators.c && target/operators > crates/words_vectors/stdout
+ * mkdir -p target && cc -O1 -Wall -o target/operators tests/vectors/operators.c && target/operators > crates/words_vectors/stdout
  */
 #include <inttypes.h>
 #include <stdint.h>
