@@ -30,7 +30,8 @@ fn store_op(size: u64) -> StoreOp
     }
 }
 
-// The arguments of a list, up to its end, each to a slot from `temp` on; there are at most eight.
+// The arguments of a list, up to its end, each to a slot from `temp` on; there are at most eight. Here and below `temp` is
+// a number with a bound and no type of its own, which would be made once and taken apart at each slot.
 #[tactic(auto, using(format::proofs::Rests::rest_and, format::proofs::Rests::rest_end))]
 fn arguments(tokens: &mut Tokens, code: &mut Code, temp: u32) -> u32
     requires { temp < 512 }
@@ -39,6 +40,7 @@ fn arguments(tokens: &mut Tokens, code: &mut Code, temp: u32) -> u32
     ensures few { result ≤ 8 }
 {
     let mut count = 0;
+    // No `for` over the count: the end of the list is taken first, and it may stand after the last.
     'list: while !tokens.end() {
         if count == MAX_ARGUMENTS {
             return count;

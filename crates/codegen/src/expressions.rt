@@ -28,6 +28,7 @@ fn word(code: &mut Code, v: u64)
     ]);
 }
 
+// The table of `load_of`, as `store_op` is that of `store_of`: an enum of sizes between them would be a third.
 #[tactic(auto, unfolding(crate::specs::Expressions::load_of, model::specs::Words::pick))]
 fn load_op(size: u64) -> LoadOp
     ensures { result ≡ load_of size }
@@ -39,6 +40,7 @@ fn load_op(size: u64) -> LoadOp
     }
 }
 
+// No `From`: which instruction an operator has is the choice made here, and riscv knows nothing of it.
 fn register_op(o: Operator) -> RegisterOp
     ensures { result ≡ register_op_of o }
 {
@@ -82,7 +84,7 @@ pub fn expression(tokens: &mut Tokens, code: &mut Code, temp: u32, depth: u32)
     let Some(token) = tokens.next() else {
         return;
     };
-    // Leaves need no depth.
+    // Leaves need no depth. Two matches: in one, with a guard, the goals of its arms stay open.
     match token {
         Token::Word(v) => return word(code, v),
         Token::Var(x) => return code.put(load_slot(VALUE, reduced(x, SLOTS))),

@@ -12,7 +12,7 @@ use format::token::Token;
 use format::tokens::Tokens;
 use riscv::instruction::Instruction;
 
-/// Which way a word goes between a register and a slot.
+/// Which way a word goes between a register and a slot. No closure: contracts have to say which instruction it makes.
 #[derive(Clone, Copy, PartialEq, Eq, Debug)]
 pub enum Transfer {
     // from a slot to a register

@@ -39,7 +39,7 @@ pub fn number(rest: &mut &[u8]) -> Option<u64>
     Some(value_of(digits))
 }
 
-// The operator of a tag.
+// The operator of a tag; no `TryFrom`, since both `TryFrom` and `Operator` are of crates below.
 #[tactic(auto, unfolding(crate::specs::Tokens::operator_at))]
 #[inline(always)]
 fn operator(tag: u8) -> Option<Operator>

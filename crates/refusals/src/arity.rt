@@ -56,7 +56,8 @@ fn note(table: &mut [Arity; BLOCK], start: usize, function: usize, arity: Arity)
     }
 }
 
-// Notes the functions of the block from `start` on, unless some function has too many arguments or results.
+// Notes the functions of the block from `start` on, unless some function has too many arguments or results. No `Check`
+// and no chain: a check that holds a `&mut` tells its lender nothing after `run`, and a chain leaves its goals open.
 fn load(text: &[u8], start: usize, table: &mut [Arity; BLOCK]) -> Option<()>
     ensures { Loaded text.now start table.old result table.new }
 {

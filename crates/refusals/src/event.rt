@@ -14,7 +14,7 @@ pub enum Event {
     Call(u64, usize, usize),
 }
 
-/// Where a scan stands.
+/// Where a scan stands: a state that says what a token means, and so no closure.
 #[derive(Clone, Copy, PartialEq, Eq, Debug)]
 pub enum Mode {
     // among commands
@@ -125,6 +125,7 @@ impl Iterator for Events<'_> {
 
     fn next(&mut self) -> Option<Event> {
         let mut mode = Mode::Body;
+        // No `for`: it would lend the tokens out, and what is left of them is the answer.
         'scan: while let Some(token) = self.tokens.next() {
             match mode.advance(token) {
                 Continue(next) => mode = next,
