@@ -1,22 +1,19 @@
 -- Registers and slots, one after the other.
-use Rattle.std.proofs.Common.{◌≡◌, ℕ, zero, suc, ◌+◌, ◌-◌, ◌%◌, ◌<◌, ◌≤◌, List, [], ◌∷◌, length, drop, Some, sym, refl, ap, subst, add-one, arith}
+use Rattle.std.proofs.Common.{◌≡◌, ℕ, zero, suc, ◌+◌, ◌-◌, ◌%◌, ◌<◌, ◌≤◌, Bool, true, false, List, [], ◌∷◌, length, Some, None, sym, refl, ap, ◌∙◌, subst, add-one, arith}
 use Rattle.format.specs.Format.{bytes_v}
-use Rattle.format.specs.Tokens.{Nexts}
+use Rattle.format.specs.Tokens.{lex, Ends}
 use Rattle.format.specs.declared.token.Token.{Token}
 use Rattle.format.specs.declared.token.Token.TheVariants.{End, Word, Var, Load as LoadOf, Choice, Operator as Binary, Set, Store as StoreOf, If, While, Call, From, To, Function as Header}
-use Rattle.format.specs.declared.token.Next.{Next}
-use Rattle.format.proofs.Heads.{HeadsV, at_v}
+use Rattle.format.proofs.Heads.{HeadsV, head_v, not_v}
 use Rattle.riscv.specs.declared.instruction.Instruction.{Instruction}
-use Rattle.riscv.specs.Encoding.{Fits}
-use Rattle.codegen.specs.declared.cursor.Cursor.{Cursor}
-use Rattle.codegen.specs.declared.transfer.Transfer.{Transfer}
-use Rattle.codegen.specs.declared.transfer.Transfer.TheVariants.{Load, Store}
+use Rattle.codegen.specs.declared.code.Code.{Code}
+use Rattle.codegen.specs.declared.slots.Transfer.{Transfer}
+use Rattle.codegen.specs.declared.slots.Transfer.TheVariants.{Load, Store}
 use Rattle.codegen.specs.Commands.{slots_from, load_registers, store_registers}
 use Rattle.codegen.specs.Transfers.{transfer_of, transfers}
 use Rattle.codegen.specs.Valid.{ValidV}
-use Rattle.codegen.specs.Emission.{Emitted, Puts}
-use Rattle.codegen.specs.Emitting.{Done, EmitsV}
-use Rattle.codegen.proofs.Emitted.{nothing, and_then}
+use Rattle.codegen.specs.Coding.{Came, EmitsV}
+use Rattle.codegen.proofs.Coding.{came_none, came_cons}
 
 pub loads_are : (xs : List ℕ) (r : ℕ) → transfers Load xs r ≡ load_registers xs r
 unfolding load_registers
@@ -28,29 +25,52 @@ unfolding store_registers
 stores_are [] r = refl
 stores_are (x ∷ xs) r = ap (λ (is : List Instruction). transfer_of Store r x ∷ is) (stores_are xs (suc r))
 
-transfer_fits : (way : Transfer) (r slot : ℕ) → r < 32 → slot < 1024 → Fits (transfer_of way r slot)
-transfer_fits Load r slot p q = (p, omega arith, omega arith)
-transfer_fits Store r slot p q = (p, omega arith, omega arith)
+-- slots that are still to come after k of them
+abbrev pub Coming : Transfer → ℕ → ℕ → ℕ → ℕ → Code → Code → Type 0
+Coming way r slot count k a b = (d : Code) → Came (transfers way (slots_from (slot + k) (count - k)) (r + k)) b d → Came (transfers way (slots_from slot count) r) a d
 
-one_transfer : (way : Transfer) (r slot pos end : ℕ) (i : Instruction) (a0 a1 : List ℕ) → r < 32 → slot < 1024 → i ≡ transfer_of way r slot → Puts pos end i a0 a1 →
-    Emitted pos end (transfer_of way r slot ∷ []) a0 a1
-one_transfer way r slot pos end i a0 a1 p q e put = subst (λ (x : Instruction). Puts pos end x a0 a1) e put (transfer_fits way r slot p q)
+pub none_yet : (way : Transfer) (r slot count : ℕ) (a : Code) → Coming way r slot count 0 a a
+none_yet way r slot count a d p =
+    let e : slot + 0 ≡ slot = omega arith in
+    let f : count - 0 ≡ count = omega arith in
+    let g : r + 0 ≡ r = omega arith in
+    let s : transfers way (slots_from (slot + 0) (count - 0)) (r + 0) ≡ transfers way (slots_from slot count) r = λ i. transfers way (slots_from (e i) (f i)) (g i) in
+    subst (λ (is : List Instruction). Came is a d) s p
 
-pub no_slots : (way : Transfer) (r slot count pos : ℕ) (a : List ℕ) → count ≡ 0 → Emitted pos pos (transfers way (slots_from slot count) r) a a
+one_first : (way : Transfer) (slot n r : ℕ) → 0 < n → transfers way (slots_from slot n) r ≡ transfer_of way r slot ∷ transfers way (slots_from (slot + 1) (n - 1)) (r + 1)
 unfolding slots_from
-no_slots way r slot zero pos a e = nothing pos a
-no_slots way r slot (suc n) pos a e = absurd (omega arith)
+one_first way slot zero r h = absurd (omega arith)
+one_first way slot (suc n) r h =
+    let e : n ≡ suc n - 1 = omega arith in
+    let f : suc slot ≡ slot + 1 = omega arith in
+    let g : suc r ≡ r + 1 = omega arith in
+    λ i. transfer_of way r slot ∷ transfers way (slots_from (f i) (e i)) (g i)
 
-pub more_slots : (way : Transfer) (r slot count pos mid end : ℕ) (i : Instruction) (a0 a1 a2 : List ℕ) → 0 < count → r + count ≤ 32 → slot + count < 1024 → i ≡ transfer_of way r slot → Puts pos mid i a0 a1 →
-    Emitted mid end (transfers way (slots_from (slot + 1) (count - 1)) (r + 1)) a1 a2 → Emitted pos end (transfers way (slots_from slot count) r) a0 a2
+pub one_more : (way : Transfer) (r slot count k : ℕ) (i : Instruction) (a b c : Code) → k < count → i ≡ transfer_of way (r + k) (slot + k) → Came (i ∷ []) b c → Coming way r slot count k a b → Coming way r slot count (k + 1) a c
+one_more way r slot count k i a b c h e p q d come =
+    let x : (slot + k) + 1 ≡ slot + (k + 1) = omega arith in
+    let y : (count - k) - 1 ≡ count - (k + 1) = omega arith in
+    let z : (r + k) + 1 ≡ r + (k + 1) = omega arith in
+    let s : transfers way (slots_from (slot + k) (count - k)) (r + k) ≡ transfer_of way (r + k) (slot + k) ∷ transfers way (slots_from (slot + (k + 1)) (count - (k + 1))) (r + (k + 1)) =
+    one_first way (slot + k) (count - k) (r + k) (omega arith) ∙ (λ j. transfer_of way (r + k) (slot + k) ∷ transfers way (slots_from (x j) (y j)) (z j)) in
+    q d (subst (λ (is : List Instruction). Came is b d) (sym s)
+    (came_cons (transfer_of way (r + k) (slot + k)) (transfers way (slots_from (slot + (k + 1)) (count - (k + 1))) (r + (k + 1))) b c d (subst (λ (j : Instruction). Came (j ∷ []) b c) e p) come))
+
+pub all_slots : (way : Transfer) (r slot count k : ℕ) (a b : Code) → count ≤ k → Coming way r slot count k a b → Came (transfers way (slots_from slot count) r) a b
 unfolding slots_from
-more_slots way r slot zero pos mid end i a0 a1 a2 h p q e put rest = absurd (omega arith)
-more_slots way r slot (suc n) pos mid end i a0 a1 a2 h p q e put rest =
-    let fewer : suc n - 1 ≡ n = omega arith in
-    let s : Emitted mid end (transfers way (slots_from (suc slot) n) (suc r)) a1 a2 =
-    subst (λ (x : ℕ). Emitted mid end (transfers way (slots_from (suc slot) n) x) a1 a2) (add-one r)
-    (subst (λ (x : ℕ). Emitted mid end (transfers way (slots_from x n) (r + 1)) a1 a2) (add-one slot) (subst (λ (x : ℕ). Emitted mid end (transfers way (slots_from (slot + 1) x) (r + 1)) a1 a2) fewer rest)) in
-    and_then pos mid end (transfer_of way r slot ∷ []) (transfers way (slots_from (suc slot) n) (suc r)) a0 a1 a2 (one_transfer way r slot pos mid i a0 a1 (omega arith) (omega arith) e put) s
+all_slots way r slot count k a b h q =
+    let e : 0 ≡ count - k = omega arith in
+    q b (subst (λ (n : ℕ). Came (transfers way (slots_from (slot + k) n) (r + k)) b b) e (came_none b))
+
+-- variables of a list: those that are still to come stand where reading has come to
+pub record Listed (way : Transfer) (first : ℕ) (rest : List ℕ) (xs : List ℕ) (r : ℕ) (now : List ℕ) (a b : Code) (ys : List ℕ) : Type 0 where
+  pub stand : now ≡ bytes_v ys rest
+  pub few : r + length ys ≤ 32
+  pub valid : ValidV ys
+  pub come : (d : Code) → Came (transfers way ys r) b d → Came (transfers way xs first) a d
+
+abbrev pub SoFar : Transfer → ℕ → List ℕ → List ℕ → ℕ → Code → Code → Type 0
+SoFar way first from now r a b = (xs rest : List ℕ) → from ≡ bytes_v xs rest → first + length xs ≤ 32 → ValidV xs → (ys : List ℕ) × Listed way first rest xs r now a b ys
 
 ends : (u : Token) (bs xs r : List ℕ) → ((x : ℕ) → u ≡ Var x → ⊥) → HeadsV u bs xs r → (xs ≡ []) × (bs ≡ r)
 ends End bs xs r n h = h
@@ -68,30 +88,42 @@ ends (From v w) bs xs r n h = absurd h
 ends (To v) bs xs r n h = absurd h
 ends (Header v w) bs xs r n h = absurd h
 
-module _ (way : Transfer) (text : List ℕ) (from : Cursor) (n : Next) (r left : ℕ) (s : Nexts text from.at (Some n)) where
-  pub no_variables : (a : List ℕ) → ((x : ℕ) → n.token ≡ Var x → ⊥) → EmitsV way text from (record { at = n.end; pos = from.pos }) r left a a
-  no_variables a not xs rest q few valid =
-      let h : (xs ≡ []) × (drop n.end text ≡ rest) = ends n.token (drop n.end text) xs rest not (at_v text from.at n s xs rest q) in
-      record { read = h.1; emitted = subst (λ (ys : List ℕ). Emitted from.pos from.pos (transfers way ys r) a a) (sym h.0) (nothing from.pos a) }
+module _ (way : Transfer) (first : ℕ) (from now : List ℕ) (r : ℕ) (a b : Code) (so : SoFar way first from now r a b) where
+  pub cut_short : (to : List ℕ) → lex now ≡ None → EmitsV way first from to a b
+  cut_short to n xs rest q few valid = let w : (ys : List ℕ) × Listed way first rest xs r now a b ys = so xs rest q few valid in absurd (not_v now n w.0 rest w.1.stand)
 
-  variable_head : (x : ℕ) → n.token ≡ Var x → (xs rest : List ℕ) → drop from.at text ≡ bytes_v xs rest → HeadsV (Var x) (drop n.end text) xs rest
-  variable_head x i xs rest q = subst (λ (u : Token). HeadsV u (drop n.end text) xs rest) i (at_v text from.at n s xs rest q)
+  -- all registers are used: the list has ended
+  pub none_left : (ended : Bool) (to : List ℕ) → r ≡ 32 → Ends now ended to → EmitsV way first from to a b
+  none_left ended to full e xs rest q few valid = last ended e (so xs rest q few valid).0 (so xs rest q few valid).1
+    where
+      last : (ended : Bool) → Ends now ended to → (ys : List ℕ) → Listed way first rest xs r now a b ys → (to ≡ rest) × Came (transfers way xs first) a b
+      last true e [] w = (cc, w.come b (came_none b))
+      last false e [] w = absurd (e.1 rest w.stand)
+      last ended e (y ∷ ys) w = absurd (omega (arith, full, w.few))
 
-  pub none_left : (x : ℕ) (to : Cursor) (a0 a1 : List ℕ) → n.token ≡ Var x → left ≡ 0 → EmitsV way text from to r left a0 a1
-  none_left x to a0 a1 i z xs rest q few valid =
-      let h : HeadsV (Var x) (drop n.end text) xs rest = variable_head x i xs rest q in absurd (omega (arith, ap length h.2, few))
+  module _ (u : Token) (to : List ℕ) (is : lex now ≡ Some (u, to)) where
+    pub all_variables : ((x : ℕ) → u ≡ Var x → ⊥) → EmitsV way first from to a b
+    all_variables not xs rest q few valid =
+        let w : (ys : List ℕ) × Listed way first rest xs r now a b ys = so xs rest q few valid in
+        let h : (w.0 ≡ []) × (to ≡ rest) = ends u to w.0 rest not (head_v w.0 rest to u (ap lex (sym w.1.stand) ∙ is)) in
+        (h.1, w.1.come b (subst (λ (ys : List ℕ). Came (transfers way ys r) b b) (sym h.0) (came_none b)))
 
-  pub more_variables : (x pos : ℕ) (to : Cursor) (i : Instruction) (a0 a1 a2 : List ℕ) → n.token ≡ Var x → 0 < left → r + left ≤ 32 → i ≡ transfer_of way r (x % 1024) → Puts from.pos pos i a0 a1 →
-      EmitsV way text (record { at = n.end; pos = pos }) to (r + 1) (left - 1) a1 a2 → EmitsV way text from to r left a0 a2
-  more_variables x pos to i a0 a1 a2 is l small e put rest_emits xs rest q few valid =
-      let h : HeadsV (Var x) (drop n.end text) xs rest = variable_head x is xs rest q in
-      let good : ValidV (h.0 ∷ h.1) = subst ValidV h.2 valid in
-      let same : x % 1024 ≡ h.0 = omega (arith, h.3, good.0) in
-      let d : Done text rest (record { at = n.end; pos = pos }) to (transfers way h.1 (r + 1)) a1 a2 = rest_emits h.1 rest h.4 (omega (arith, ap length h.2, few)) good.1 in
-      record {
-        read = d.read;
-        emitted = subst (λ (ys : List ℕ). Emitted from.pos to.pos (transfers way ys r) a0 a2) (sym h.2)
-            (and_then from.pos pos to.pos (transfer_of way r h.0 ∷ []) (transfers way h.1 (suc r)) a0 a1 a2
-            (subst (λ (m : ℕ). Emitted from.pos pos (transfer_of way r m ∷ []) a0 a1) same (one_transfer way r (x % 1024) from.pos pos i a0 a1 (omega arith) (omega arith) e put))
-            (subst (λ (m : ℕ). Emitted pos to.pos (transfers way h.1 m) a1 a2) (add-one r) d.emitted));
-      }
+    head : (x : ℕ) → u ≡ Var x → (ys rest : List ℕ) → now ≡ bytes_v ys rest → HeadsV (Var x) to ys rest
+    head x i ys rest q = subst (λ (v : Token). HeadsV v to ys rest) i (head_v ys rest to u (ap lex (sym q) ∙ is))
+
+    pub one_variable : (x : ℕ) (i : Instruction) (c : Code) → u ≡ Var x → i ≡ transfer_of way r (x % 1024) → Came (i ∷ []) b c → SoFar way first from to (r + 1) a c
+    one_variable x i c e f p xs rest q few valid =
+        let w : (ys : List ℕ) × Listed way first rest xs r now a b ys = so xs rest q few valid in
+        let h : HeadsV (Var x) to w.0 rest = head x e w.0 rest w.1.stand in
+        let good : ValidV (h.0 ∷ h.1) = subst ValidV h.2 w.1.valid in
+        let same : x % 1024 ≡ h.0 = omega (arith, h.3, good.0) in
+        let one : Came (transfer_of way r h.0 ∷ []) b c = subst (λ (m : ℕ). Came (transfer_of way r m ∷ []) b c) same (subst (λ (j : Instruction). Came (j ∷ []) b c) f p) in (
+          h.1,
+          record {
+            stand = h.4;
+            few = omega (arith, w.1.few, ap length h.2);
+            valid = good.1;
+            come = λ d s. w.1.come d (subst (λ (ys : List ℕ). Came (transfers way ys r) b d) (sym h.2)
+                (came_cons (transfer_of way r h.0) (transfers way h.1 (suc r)) b c d one (subst (λ (m : ℕ). Came (transfers way h.1 m) c d) (add-one r) s)));
+          },
+        )

@@ -1,10 +1,10 @@
 -- Frames of functions, and the layout of a program.
-use Rattle.std.specs.Prelude.{◌≡◌, ℕ, ◌+◌, ◌<◌, ◌≤◌, List, [], ◌∷◌, length, drop, slice_index}
+use Rattle.std.specs.Prelude.{◌≡◌, ℕ, ◌+◌, ◌<◌, ◌≤◌, List, [], ◌∷◌, length, slice_index}
 use Rattle.model.specs.Source.{Function, Program}
 use Rattle.format.specs.Format.{bytes_v, bytes_cs, bytes_p}
-use Rattle.codegen.specs.declared.cursor.Cursor.{Cursor}
-use Rattle.codegen.specs.declared.layout.Frame.{Frame}
-use Rattle.codegen.specs.declared.layout.Layout.{Layout}
+use Rattle.codegen.specs.declared.code.Code.{Code}
+use Rattle.codegen.specs.declared.frame.Frame.{Frame}
+use Rattle.codegen.specs.declared.functions.Layout.{Layout}
 use Rattle.riscv.specs.declared.instruction.Instruction.TheVariants.{Jalr, Immediate}
 use Rattle.riscv.specs.declared.instruction.ImmediateOp.TheVariants.{Addi}
 use Rattle.codegen.specs.Frame.{load_slot, return_slot, frame_bytes}
@@ -12,35 +12,24 @@ use Rattle.codegen.specs.Functions.{prologue, code_f}
 use Rattle.codegen.specs.Program.{length_f, starts, linked, stack_for}
 use Rattle.codegen.specs.Valid.{ValidF, ValidP}
 use Rattle.codegen.specs.Emission.{limit, Emitted}
-use Rattle.codegen.specs.Emitting.{by_table, Done}
-
-abbrev pub Small : Frame → Type 0
-Small f = (f.arguments ≤ 8) × (f.variables ≤ 256)
+use Rattle.codegen.specs.Coding.{by_table, Came}
 
 -- the frame is this function's
 abbrev pub Frames : Frame → Function → Type 0
 Frames r f = (r.arguments ≡ f.arguments) × (r.variables ≡ f.variables)
 
-abbrev pub EmitsPrologue : Frame → ℕ → ℕ → List ℕ → List ℕ → Type 0
-EmitsPrologue r pos end before after = (f : Function) → Frames r f → Emitted pos end (prologue f) before after
+abbrev pub EmitsPrologue : Frame → Code → Code → Type 0
+EmitsPrologue r before after = (f : Function) → Frames r f → Came (prologue f) before after
 
 -- the results being in registers
-abbrev pub EmitsLeave : Frame → ℕ → ℕ → List ℕ → List ℕ → Type 0
-EmitsLeave r pos end before after =
-    (f : Function) → Frames r f →
-    Emitted pos end (load_slot 1 (return_slot f) ∷ (Immediate Addi 2 2 (frame_bytes f) ∷ (Jalr 0 1 0 ∷ []))) before after
+abbrev pub EmitsLeave : Frame → Code → Code → Type 0
+EmitsLeave r before after =
+    (f : Function) → Frames r f → Came (load_slot 1 (return_slot f) ∷ (Immediate Addi 2 2 (frame_bytes f) ∷ (Jalr 0 1 0 ∷ []))) before after
 
 -- a function after its head
-abbrev pub EmitsF : List ℕ → Frame → List ℕ → ℕ → Cursor → List ℕ → List ℕ → Type 0
-EmitsF ss r part pos to before after =
-    (f : Function) (rest : List ℕ) → part ≡ bytes_v f.results (bytes_cs f.body rest) → Frames r f → ValidF f →
-    Done part rest (record { at = 0; pos = pos }) to (code_f (by_table ss) f) before after
-
--- where a function and its code end
-abbrev pub Measures : Frame → List ℕ → ℕ → Cursor → Type 0
-Measures r part pos to =
-    (f : Function) (rest : List ℕ) → part ≡ bytes_v f.results (bytes_cs f.body rest) → Frames r f → ValidF f →
-    (drop to.at part ≡ rest) × (pos + length_f f ≤ limit → to.pos ≡ pos + length_f f)
+abbrev pub EmitsF : List ℕ → Frame → List ℕ → List ℕ → Code → Code → Type 0
+EmitsF ss r from to before after =
+    (f : Function) (rest : List ℕ) → from ≡ bytes_v f.results (bytes_cs f.body rest) → Frames r f → ValidF f → (to ≡ rest) × Came (code_f (by_table ss) f) before after
 
 -- how many words all functions have
 abbrev pub words_in : Program → ℕ

@@ -1,33 +1,35 @@
 // The code of expressions.
 ghost use Rattle.std.specs.Prelude.{◌≡◌, ◌+◌, ◌%◌, ◌<◌};
-ghost use Rattle.codegen.specs.Selection.{register_op_of};
-ghost use Rattle.codegen.specs.Emission.{Emitted};
-ghost use Rattle.codegen.specs.Emitting.{Moves, EmitsE, EmitsLoad, EmitsOperation, EmitsChoice};
+ghost use Rattle.codegen.specs.Coding.{Came, Same, Moves, Emits};
 ghost use Rattle.codegen.specs.Expressions.{code_e, code_op, load_of};
+ghost use Rattle.codegen.specs.Selection.{register_op_of};
 ghost use Rattle.model.specs.Source.{word};
 ghost use Rattle.words.specs.Operators.{op_of};
 
-use crate::cursor::Cursor;
-use crate::output::{patch, put};
-use format::lexer::next;
+use crate::code::Code;
+use crate::limits::reduced;
+use crate::registers::{SCRATCH, SLOTS, VALUE, halves, load_slot, store_slot};
 use format::token::Token;
-use riscv::instruction::{Condition, ImmediateOp, Instruction, LoadOp, RegisterOp, StoreOp};
+use format::tokens::Tokens;
+use model::limits::WORDS;
+use riscv::instruction::{ImmediateOp, Instruction, LoadOp, RegisterOp};
 use words::operator::Operator;
 
 // A word comes in two parts, of which the lower one has a sign.
-fn word(code: &mut [u32], pos: usize, v: u64) -> usize
-    ensures { Emitted pos result (code_e 0 (word (v % 4294967296))) code.old code.new }
+#[tactic(auto, unfolding(crate::specs::Expressions::code_e))]
+fn word(code: &mut Code, v: u64)
+    ensures came { Came (code_e 0 (word (v % 4294967296))) code.old code.new }
+    ensures same { Same code.old code.new }
 {
-    let n = v % 0x1_0000_0000;
-    let upper = ((n + 2048) / 4096 % 1048576) as u32;
-    let pos = put(code, pos, Instruction::Lui(5, upper));
-    put(
-        code,
-        pos,
-        Instruction::Immediate(ImmediateOp::Addi, 5, 5, (n % 4096) as u32),
-    )
+    let (upper, lower) = halves(v % WORDS);
+    code.put_all(&[
+        Instruction::Lui(VALUE, upper),
+        Instruction::Immediate(ImmediateOp::Addi, VALUE, VALUE, lower),
+    ]);
 }
 
+// The table of `load_of`, as `store_op` is that of `store_of`: an enum of sizes between them would be a third.
+#[tactic(auto, unfolding(crate::specs::Expressions::load_of, model::specs::Words::pick))]
 fn load_op(size: u64) -> LoadOp
     ensures { result ≡ load_of size }
 {
@@ -38,6 +40,7 @@ fn load_op(size: u64) -> LoadOp
     }
 }
 
+// No `From`: which instruction an operator has is the choice made here, and riscv knows nothing of it.
 fn register_op(o: Operator) -> RegisterOp
     ensures { result ≡ register_op_of o }
 {
@@ -61,120 +64,56 @@ fn register_op(o: Operator) -> RegisterOp
 }
 
 // An operator on the scratch register and the value register.
-fn operator(code: &mut [u32], pos: usize, o: Operator) -> usize
-    ensures { Emitted pos result (code_op (op_of o)) code.old code.new }
+fn operator(code: &mut Code, o: Operator)
+    ensures came { Came (code_op (op_of o)) code.old code.new }
+    ensures same { Same code.old code.new }
 {
-    let pos = put(code, pos, Instruction::Register(register_op(o), 5, 6, 5));
-    match o {
-        Operator::Equal => put(
-            code,
-            pos,
-            Instruction::Immediate(ImmediateOp::Sltiu, 5, 5, 1),
-        ),
-        _ => pos,
+    code.put(Instruction::Register(register_op(o), VALUE, SCRATCH, VALUE));
+    if let Operator::Equal = o {
+        code.put(Instruction::Immediate(ImmediateOp::Sltiu, VALUE, VALUE, 1));
     }
 }
 
-// A load of `size` bytes, after its head.
-#[cycle(choice_expression_load_operation)]
-fn load(text: &[u8], code: &mut [u32], from: Cursor, temp: u32, depth: u32, size: u64) -> Cursor
+/// The next expression, its value to the value register; slots from `temp` on are free.
+#[tactic(auto, using(format::proofs::Rests::rest_and, format::proofs::Rests::rest_lex))]
+pub fn expression(tokens: &mut Tokens, code: &mut Code, temp: u32, depth: u32)
     requires { temp + depth < 1024 }
-    ensures emits { EmitsLoad text.now from result size temp depth code.old code.new }
-    ensures moves { Moves text.now from result }
+    ensures emits { Emits temp depth tokens.old tokens.new code.old code.new }
+    ensures moves { Moves tokens.old tokens.new code.old code.new }
 {
-    if depth == 0 {
-        return from;
-    }
-    let c = expression(text, code, from, temp, depth - 1);
-    let pos = put(code, c.pos, Instruction::Load(load_op(size), 5, 5, 0));
-    Cursor { at: c.at, pos }
-}
-
-// An operation, after its head: the first operand waits in a slot.
-#[cycle(choice_expression_load_operation)]
-fn operation(
-    text: &[u8],
-    code: &mut [u32],
-    from: Cursor,
-    temp: u32,
-    depth: u32,
-    o: Operator,
-) -> Cursor
-    requires { temp + depth < 1024 }
-    ensures emits { EmitsOperation text.now from result o temp depth code.old code.new }
-    ensures moves { Moves text.now from result }
-{
-    if depth == 0 {
-        return from;
-    }
-    let c = expression(text, code, from, temp, depth - 1);
-    let pos = put(code, c.pos, Instruction::Store(StoreOp::Sw, 5, 2, 4 * temp));
-    let d = expression(text, code, Cursor { at: c.at, pos }, temp + 1, depth - 1);
-    let pos = put(code, d.pos, Instruction::Load(LoadOp::Lw, 6, 2, 4 * temp));
-    let pos = operator(code, pos, o);
-    Cursor { at: d.at, pos }
-}
-
-// A choice, after its head.
-#[cycle(choice_expression_load_operation)]
-fn choice(text: &[u8], code: &mut [u32], from: Cursor, temp: u32, depth: u32) -> Cursor
-    requires { temp + depth < 1024 }
-    ensures emits { EmitsChoice text.now from result temp depth code.old code.new }
-    ensures moves { Moves text.now from result }
-{
-    if depth == 0 {
-        return from;
-    }
-    let c = expression(text, code, from, temp, depth - 1);
-    let first = put(code, c.pos, Instruction::Branch(Condition::Ne, 5, 0, 8));
-    let pos = put(code, first, Instruction::Jal(0, 0));
-    let d = expression(text, code, Cursor { at: c.at, pos }, temp, depth - 1);
-    let third = put(code, d.pos, Instruction::Jal(0, 0));
-    let e = expression(
-        text,
-        code,
-        Cursor {
-            at: d.at,
-            pos: third,
-        },
-        temp,
-        depth - 1,
-    );
-    patch(code, d.pos, e.pos);
-    patch(code, first, third);
-    e
-}
-
-// The expression at the cursor, its value to the value register; slots from `temp` on are free.
-#[cycle(choice_expression_load_operation)]
-pub fn expression(text: &[u8], code: &mut [u32], from: Cursor, temp: u32, depth: u32) -> Cursor
-    requires { temp + depth < 1024 }
-    ensures emits { EmitsE text.now from result temp depth code.old code.new }
-    ensures moves { Moves text.now from result }
-{
-    let Some(n) = next(text, from.at) else {
-        return from;
+    let Some(token) = tokens.next() else {
+        return;
     };
-    let head = Cursor {
-        at: n.end,
-        pos: from.pos,
-    };
-    match n.token {
-        Token::Word(v) => {
-            let pos = word(code, from.pos, v);
-            Cursor { at: n.end, pos }
+    // Leaves need no depth. Two matches: in one, with a guard, the goals of its arms stay open.
+    match token {
+        Token::Word(v) => return word(code, v),
+        Token::Var(x) => return code.put(load_slot(VALUE, reduced(x, SLOTS))),
+        _ => {}
+    }
+    if depth == 0 {
+        return;
+    }
+    match token {
+        Token::Load(size) => {
+            expression(tokens, code, temp, depth - 1);
+            code.put(Instruction::Load(load_op(size), VALUE, VALUE, 0));
         }
-        Token::Var(x) => {
-            let pos = put(
-                code,
-                from.pos,
-                Instruction::Load(LoadOp::Lw, 5, 2, 4 * (x % 1024) as u32),
-            );
-            Cursor { at: n.end, pos }
+        Token::Operator(o) => {
+            expression(tokens, code, temp, depth - 1);
+            code.put(store_slot(VALUE, temp));
+            expression(tokens, code, temp + 1, depth - 1);
+            code.put(load_slot(SCRATCH, temp));
+            operator(code, o);
         }
-        Token::Load(size) => load(text, code, head, temp, depth, size),
-        Token::Operator(o) => operation(text, code, head, temp, depth, o),
-        Token::Choice => choice(text, code, head, temp, depth),
-        _ => from,
+        Token::Choice => {
+            expression(tokens, code, temp, depth - 1);
+            let otherwise = code.jump_if_zero();
+            expression(tokens, code, temp, depth - 1);
+            let end = code.jump();
+            code.land(otherwise);
+            expression(tokens, code, temp, depth - 1);
+            code.land(end);
+        }
+        _ => {}
     }
 }

@@ -1,78 +1,63 @@
 // Registers to slots and back, one after the other.
 ghost use Rattle.std.specs.Prelude.{◌≡◌, ◌+◌, ◌<◌, ◌≤◌};
+ghost use Rattle.codegen.specs.Coding.{Came, Same, Moves, EmitsV};
 ghost use Rattle.codegen.specs.Commands.{slots_from};
-ghost use Rattle.codegen.specs.Emission.{Emitted};
-ghost use Rattle.codegen.specs.Emitting.{Moves, EmitsV};
 ghost use Rattle.codegen.specs.Transfers.{transfer_of, transfers};
+ghost use Rattle.riscv.specs.Encoding.{Fits};
 
-use crate::cursor::Cursor;
-use crate::output::put;
-use crate::transfer::Transfer;
-use format::lexer::next;
+use crate::code::Code;
+use crate::limits::reduced;
+use crate::registers::{REGISTERS, SLOTS, load_slot, store_slot};
 use format::token::Token;
-use riscv::instruction::{Instruction, LoadOp, StoreOp};
+use format::tokens::Tokens;
+use riscv::instruction::Instruction;
 
-fn transfer(way: Transfer, register: u8, slot: u32) -> Instruction
-    requires { slot < 1024 }
-    ensures { result ≡ transfer_of way register slot }
-{
-    match way {
-        Transfer::Load => Instruction::Load(LoadOp::Lw, register, 2, 4 * slot),
-        Transfer::Store => Instruction::Store(StoreOp::Sw, register, 2, 4 * slot),
+/// Which way a word goes between a register and a slot. No closure: contracts have to say which instruction it makes.
+#[derive(Clone, Copy, PartialEq, Eq, Debug)]
+pub enum Transfer {
+    // from a slot to a register
+    Load,
+    // from a register to a slot
+    Store,
+}
+
+impl Transfer {
+    // The instruction that moves a word between the register and the slot.
+    fn between(self, register: u8, slot: u32) -> Instruction
+        requires { (register < 32) × (slot < 1024) }
+        ensures is { result ≡ transfer_of self register slot }
+        ensures fits { Fits result }
+    {
+        match self {
+            Transfer::Load => load_slot(register, slot),
+            Transfer::Store => store_slot(register, slot),
+        }
     }
 }
 
-// `count` slots from `slot` on, and as many registers from `register` on.
-pub fn slots(
-    code: &mut [u32],
-    pos: usize,
-    way: Transfer,
-    register: u8,
-    slot: u32,
-    count: u32,
-) -> usize
+/// `count` slots from `slot` on, and as many registers from `register` on.
+pub fn slots(code: &mut Code, way: Transfer, register: u8, slot: u32, count: u32)
     requires { (register + count ≤ 32) × (slot + count < 1024) }
-    ensures { Emitted pos result (transfers way (slots_from slot count) register) code.old code.new }
+    ensures came { Came (transfers way (slots_from slot count) register) code.old code.new }
+    ensures same { Same code.old code.new }
 {
-    if count == 0 {
-        return pos;
+    for k in 0..count {
+        code.put(way.between(register + k as u8, slot + k));
     }
-    let next = put(code, pos, transfer(way, register, slot));
-    slots(code, next, way, register + 1, slot + 1, count - 1)
 }
 
-// The variables that are listed at the cursor, at most `left`, and registers from `register` on.
-pub fn variables(
-    text: &[u8],
-    code: &mut [u32],
-    from: Cursor,
-    way: Transfer,
-    register: u8,
-    left: u32,
-) -> Cursor
-    requires { register + left ≤ 32 }
-    ensures emits { EmitsV way text.now from result register left code.old code.new }
-    ensures moves { Moves text.now from result }
+/// The variables of a list, up to its end, and registers from `first` on, as far as there are some.
+#[tactic(auto, using(format::proofs::Rests::rest_and, format::proofs::Rests::rest_lex))]
+pub fn variables(tokens: &mut Tokens, code: &mut Code, way: Transfer, first: u8)
+    requires { first ≤ 32 }
+    ensures emits { EmitsV way first tokens.old tokens.new code.old code.new }
+    ensures moves { Moves tokens.old tokens.new code.old code.new }
 {
-    let Some(n) = next(text, from.at) else {
-        return from;
-    };
-    let Token::Var(x) = n.token else {
-        return Cursor {
-            at: n.end,
-            pos: from.pos,
+    for register in first..REGISTERS {
+        let Some(Token::Var(x)) = tokens.next() else {
+            return;
         };
-    };
-    if left == 0 {
-        return from;
+        code.put(way.between(register, reduced(x, SLOTS)));
     }
-    let pos = put(code, from.pos, transfer(way, register, (x % 1024) as u32));
-    variables(
-        text,
-        code,
-        Cursor { at: n.end, pos },
-        way,
-        register + 1,
-        left - 1,
-    )
+    tokens.end();
 }

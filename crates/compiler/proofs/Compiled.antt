@@ -8,8 +8,8 @@ use Rattle.model.proofs.Accepted.{Accepted, accepted}
 use Rattle.riscv.specs.declared.instruction.Instruction.{Instruction}
 use Rattle.codegen.specs.Program.{starts, linked, code_of, stack_for, made, compile}
 use Rattle.codegen.specs.Emission.{limit, Wrote, Emitted}
-use Rattle.codegen.specs.Emitting.{by_table}
-use Rattle.codegen.specs.declared.layout.Layout.{Layout}
+use Rattle.codegen.specs.Coding.{by_table}
+use Rattle.codegen.specs.declared.functions.Layout.{Layout}
 use Rattle.codegen.specs.Layouts.{words_in, LaysOut, Lays, EmitsP}
 use Rattle.format.specs.Format.{bytes_p, bytes_of, read}
 use Rattle.format.proofs.Back.{reads_back}

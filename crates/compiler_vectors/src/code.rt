@@ -6,28 +6,29 @@ use std::fmt::Write;
 // No instruction has this word.
 pub const UNUSED: u32 = 0xffff_ffff;
 
+// Code is listed up to so many words, and else by its checksum.
+const MOST_LISTED: usize = 60;
+
+// The base of the checksum, and the largest prime below 2^32.
+const BASE: u64 = 65_599;
+
+const PRIME: u64 = 4_294_967_291;
+
 pub fn untouched(words: &[u32]) -> bool {
-    for w in words {
-        if *w != UNUSED {
-            return false;
-        }
-    }
-    true
+    words.iter().all(|w| *w == UNUSED)
 }
 
-// The words as digits of a number in base 65,599, the first one highest, modulo the largest prime below 2^32.
+// The words as digits of a number, the first one highest, modulo the prime.
 fn checksum(code: &[u32]) -> u64 {
-    let mut sum = 0u64;
-    for w in code {
-        sum = sum.wrapping_mul(65_599).wrapping_add(u64::from(*w)) % 4_294_967_291;
-    }
-    sum
+    code.iter().fold(0u64, |sum, w| {
+        sum.wrapping_mul(BASE).wrapping_add(u64::from(*w)) % PRIME
+    })
 }
 
 // Short code word by word, and of longer code the checksum.
-pub fn listing(heap: Global, code: &[u32]) -> Result<String, fmt::Error> {
-    let mut list = String::new(heap);
-    if code.len() > 60 {
+pub fn listing(alloc: Global, code: &[u32]) -> Result<String, fmt::Error> {
+    let mut list = String::new(alloc);
+    if code.len() > MOST_LISTED {
         let sum = checksum(code);
         write!(list, " checksum {sum:08x}")?;
         return Ok(list);

@@ -4,43 +4,34 @@
 #![tactic(auto)]
 
 mod code;
-mod hexadecimal;
 
 use code::{UNUSED, listing, untouched};
 use compiler::answer::Answer;
 use compiler::compile;
-use compiler::numbers::{number, place};
-use hexadecimal::bytes;
-use refusals::refusal::Refusal;
+use refusals::refusal::Numbered;
 use std::io;
 use std::io::{BufRead, BufReader};
 
-fn show_refusal(rt: &HostRuntime, r: Refusal) -> io::Result<()> {
-    let number = number(r);
-    let place = place(r);
-    println!(rt; "refused {number} at {place}")
-}
+// Words to spare, and fewer words than any code has.
+const SPARE: usize = 8;
+
+const TOO_FEW: usize = 4;
 
 // Room for one word less than the code has: it is told how many it has, and nothing is written.
-fn show_no_room(rt: &HostRuntime, text: &[u8], room: usize) -> io::Result<()> {
-    let mut code = Vec::from_elem(rt.alloc(), UNUSED, room)?;
-    match compile(text, code.as_mut_slice()) {
-        Answer::NoRoom(words) => {
-            if untouched(&code) {
-                println!(rt; "no room {words} untouched")
-            } else {
-                println!(rt; "no room {words} written nevertheless")
-            }
-        }
+fn show_no_room(rt: &(impl Print + AllocGlobal), text: &[u8], room: usize) -> io::Result<()> {
+    let mut code = vec![in rt.alloc(); UNUSED; room]?;
+    match compile(text, &mut code) {
+        Answer::NoRoom(words) if untouched(&code) => println!(rt; "no room {words} untouched"),
+        Answer::NoRoom(words) => println!(rt; "no room {words} written nevertheless"),
         _ => println!(rt; "an answer other than no room"),
     }
 }
 
 // Room to spare: the same code, and what stands after it is as it was.
-fn show_spare(rt: &HostRuntime, text: &[u8], code: &[u32]) -> io::Result<()> {
-    let mut longer = Vec::from_elem(rt.alloc(), UNUSED, code.len())?;
-    longer.extend_from_slice(&[UNUSED; 8])?;
-    let Answer::Compiled(_, words) = compile(text, longer.as_mut_slice()) else {
+fn show_spare(rt: &(impl Print + AllocGlobal), text: &[u8], code: &[u32]) -> io::Result<()> {
+    let mut longer = vec![in rt.alloc(); UNUSED; code.len()]?;
+    longer.extend_from_slice(&[UNUSED; SPARE])?;
+    let Answer::Compiled(_, words) = compile(text, &mut longer) else {
         return println!(rt; "not compiled with room to spare");
     };
     let Some((front, rest)) = longer.split_at_checked(words) else {
@@ -54,9 +45,9 @@ fn show_spare(rt: &HostRuntime, text: &[u8], code: &[u32]) -> io::Result<()> {
 }
 
 // A program that has code of so many words.
-fn show_code(rt: &HostRuntime, text: &[u8], words: usize) -> io::Result<()> {
-    let mut code = Vec::from_elem(rt.alloc(), UNUSED, words)?;
-    let Answer::Compiled(stack, length) = compile(text, code.as_mut_slice()) else {
+fn show_code(rt: &(impl Print + AllocGlobal), text: &[u8], words: usize) -> io::Result<()> {
+    let mut code = vec![in rt.alloc(); UNUSED; words]?;
+    let Answer::Compiled(stack, length) = compile(text, &mut code) else {
         return println!(rt; "not compiled into {words} words");
     };
     let list = listing(rt.alloc(), &code)?;
@@ -65,15 +56,15 @@ fn show_code(rt: &HostRuntime, text: &[u8], words: usize) -> io::Result<()> {
     show_no_room(rt, text, words.saturating_sub(1))
 }
 
-// No code is as short as the room at first, so that the answer is how long it is, or a refusal.
-fn show(rt: &HostRuntime, text: &[u8]) -> io::Result<()> {
-    let mut room = [UNUSED; 4];
+// At first there is room for no code, so that the answer is how long it is, or a refusal.
+fn show(rt: &(impl Print + AllocGlobal), text: &[u8]) -> io::Result<()> {
+    let mut room = [UNUSED; TOO_FEW];
     let answer = compile(text, &mut room);
     if !untouched(&room) {
         println!(rt; "written nevertheless")?;
     }
     match answer {
-        Answer::Refused(r) => show_refusal(rt, r),
+        Answer::Refused(refusal) => println!(rt; "{}", Numbered(refusal)),
         Answer::NoRoom(words) => show_code(rt, text, words),
         Answer::Compiled(_, words) => println!(rt; "compiled into {words} words"),
     }
@@ -86,7 +77,7 @@ fn main(rt: HostRuntime) -> io::Result<()> {
             rt.println(line.as_str())?;
             continue;
         }
-        let text = bytes(rt.alloc(), line.as_bytes())?;
+        let text = hex::decode(rt.alloc(), line).map_err(|_| io::ErrorKind::InvalidData)?;
         show(&rt, &text)?;
     }
     Ok(())

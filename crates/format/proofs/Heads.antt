@@ -1,16 +1,15 @@
 -- The token at the front of a tree's bytes, and what the tree must have been.
-use Rattle.std.proofs.Common.{◌≡◌, ℕ, ◌<◌, ◌≤◌, List, [], ◌∷◌, drop, Some, None, Option, sym, refl, ap, ◌∙◌, subst, arith}
+use Rattle.std.proofs.Common.{◌≡◌, ℕ, List, [], ◌∷◌, Some, None, Option, sym, refl, ap, ◌∙◌, subst}
 use Rattle.model.specs.Source.{Op, add, sub, mul, mul_high, div, rem, and, or, xor, shift_right, shift_left, shift_signed, less_s, less, equal, Expr, word, var, load, op, if_not_zero, Cmd, set, store, if_then, while, call, from_door, to_door, Cmds, none, more, Function, Program}
 use Rattle.words.specs.Operators.{op_of}
 use Rattle.format.specs.Format.{tag_of, bytes_n, bytes_e, bytes_es, bytes_v, bytes_c, bytes_cs, bytes_p}
 use Rattle.format.specs.declared.token.Token.{Token}
 use Rattle.format.specs.declared.token.Token.TheVariants.{End, Word, Var, Load, Choice, Operator as Binary, Set, Store, If, While, Call, From, To, Function as Header}
-use Rattle.format.specs.declared.token.Next.{Next}
-use Rattle.format.specs.Tokens.{cap, count, operator_at, token_of, operator_of, one, one_more, two, lex, Nexts}
+use Rattle.format.specs.Tokens.{cap, count, operator_at, token_of, operator_of, one, one_more, two, lex}
 use Rattle.format.proofs.Numbers.{reads_n}
 
 pub never : {A : Type 0} (o : Option A) (a : A) → o ≡ None → o ≡ Some a → ⊥
-never o a p q = let z : ◌≡◌ {A = ℕ} 0 1 = cc in omega arith
+never o a p q = cc
 
 -- one token at most stands at the front
 pub same_token : (o : Option (Token × List ℕ)) (t u : Token) (a b : List ℕ) → o ≡ Some (t, a) → o ≡ Some (u, b) → (t ≡ u) × (a ≡ b)
@@ -52,7 +51,7 @@ lex_op less_s r = refl
 lex_op less r = refl
 lex_op equal r = refl
 
--- EXPRESSIONS
+-- expressions
 abbrev pub first_e : Expr → Token
 first_e (word n) = Word (cap n)
 first_e (var x) = Var (cap x)
@@ -77,20 +76,12 @@ lex_e (if_not_zero c d e) r = refl
 
 -- of the token at the front of an expression's bytes before r, and what follows it: what the expression was
 abbrev pub HeadsE : Token → List ℕ → Expr → List ℕ → Type 0
-HeadsE End bs e r = ⊥
 HeadsE (Word v) bs e r = (n : ℕ) × (e ≡ word n) × (v ≡ cap n) × (bs ≡ r)
 HeadsE (Var v) bs e r = (x : ℕ) × (e ≡ var x) × (v ≡ cap x) × (bs ≡ r)
 HeadsE (Load v) bs e r = (n : ℕ) × (d : Expr) × (e ≡ load n d) × (v ≡ cap n) × (bs ≡ bytes_e d r)
 HeadsE Choice bs e r = (c : Expr) × (d : Expr) × (f : Expr) × (e ≡ if_not_zero c d f) × (bs ≡ bytes_e c (bytes_e d (bytes_e f r)))
 HeadsE (Binary o) bs e r = (d : Expr) × (f : Expr) × (e ≡ op (op_of o) d f) × (bs ≡ bytes_e d (bytes_e f r))
-HeadsE (Set v) bs e r = ⊥
-HeadsE (Store v) bs e r = ⊥
-HeadsE If bs e r = ⊥
-HeadsE While bs e r = ⊥
-HeadsE (Call v) bs e r = ⊥
-HeadsE (From v w) bs e r = ⊥
-HeadsE (To v) bs e r = ⊥
-HeadsE (Header v w) bs e r = ⊥
+HeadsE _ bs e r = ⊥
 
 own_e : (e : Expr) (bs r : List ℕ) → bs ≡ rest_e e r → HeadsE (first_e e) bs e r
 own_e (word n) bs r q = (n, refl, refl, q)
@@ -104,22 +95,11 @@ head_e e r bs t q =
     let w : (first_e e ≡ t) × (rest_e e r ≡ bs) = same_token (lex (bytes_e e r)) (first_e e) t (rest_e e r) bs (lex_e e r) q in
     subst (λ (u : Token). HeadsE u bs e r) w.0 (own_e e bs r (sym w.1))
 
--- VARIABLES
+-- variables
 abbrev pub HeadsV : Token → List ℕ → List ℕ → List ℕ → Type 0
 HeadsV End bs xs r = (xs ≡ []) × (bs ≡ r)
-HeadsV (Word v) bs xs r = ⊥
 HeadsV (Var v) bs xs r = (x : ℕ) × (ys : List ℕ) × (xs ≡ x ∷ ys) × (v ≡ cap x) × (bs ≡ bytes_v ys r)
-HeadsV (Load v) bs xs r = ⊥
-HeadsV Choice bs xs r = ⊥
-HeadsV (Binary o) bs xs r = ⊥
-HeadsV (Set v) bs xs r = ⊥
-HeadsV (Store v) bs xs r = ⊥
-HeadsV If bs xs r = ⊥
-HeadsV While bs xs r = ⊥
-HeadsV (Call v) bs xs r = ⊥
-HeadsV (From v w) bs xs r = ⊥
-HeadsV (To v) bs xs r = ⊥
-HeadsV (Header v w) bs xs r = ⊥
+HeadsV _ bs xs r = ⊥
 
 pub lex_end_byte : (r : List ℕ) → lex (0 ∷ r) ≡ Some (End, r)
 unfolding lex count token_of
@@ -137,39 +117,7 @@ head_v (x ∷ xs) r bs t q =
     let w : (Var (cap x) ≡ t) × (bytes_v xs r ≡ bs) = same_token (lex (bytes_v (x ∷ xs) r)) (Var (cap x)) t (bytes_v xs r) bs (lex_var x (bytes_v xs r)) q in
     subst (λ (u : Token). HeadsV u bs (x ∷ xs) r) w.0 (x, xs, refl, refl, sym w.1)
 
--- EXPRESSIONS IN A ROW: the end, or one more, whose bytes stand where the token does
-abbrev pub HeadsEs : Token → List ℕ → List Expr → List ℕ → Type 0
-HeadsEs End bs es r = (es ≡ []) × (bs ≡ r)
-HeadsEs (Word v) bs es r = (e : Expr) × (fs : List Expr) × (es ≡ e ∷ fs)
-HeadsEs (Var v) bs es r = (e : Expr) × (fs : List Expr) × (es ≡ e ∷ fs)
-HeadsEs (Load v) bs es r = (e : Expr) × (fs : List Expr) × (es ≡ e ∷ fs)
-HeadsEs Choice bs es r = (e : Expr) × (fs : List Expr) × (es ≡ e ∷ fs)
-HeadsEs (Binary o) bs es r = (e : Expr) × (fs : List Expr) × (es ≡ e ∷ fs)
-HeadsEs (Set v) bs es r = ⊥
-HeadsEs (Store v) bs es r = ⊥
-HeadsEs If bs es r = ⊥
-HeadsEs While bs es r = ⊥
-HeadsEs (Call v) bs es r = ⊥
-HeadsEs (From v w) bs es r = ⊥
-HeadsEs (To v) bs es r = ⊥
-HeadsEs (Header v w) bs es r = ⊥
-
-own_es : (e : Expr) (fs : List Expr) (bs r : List ℕ) → HeadsEs (first_e e) bs (e ∷ fs) r
-own_es (word n) fs bs r = (word n, fs, refl)
-own_es (var n) fs bs r = (var n, fs, refl)
-own_es (load n e) fs bs r = (load n e, fs, refl)
-own_es (op o d e) fs bs r = (op o d e, fs, refl)
-own_es (if_not_zero c d e) fs bs r = (if_not_zero c d e, fs, refl)
-
-pub head_es : (es : List Expr) (r bs : List ℕ) (t : Token) → lex (bytes_es es r) ≡ Some (t, bs) → HeadsEs t bs es r
-head_es [] r bs t q =
-    let w : (End ≡ t) × (r ≡ bs) = same_token (lex (0 ∷ r)) End t r bs (lex_end_byte r) q in
-    subst (λ (u : Token). HeadsEs u bs [] r) w.0 (refl, sym w.1)
-head_es (e ∷ es) r bs t q =
-    let w : (first_e e ≡ t) × (rest_e e (bytes_es es r) ≡ bs) = same_token (lex (bytes_e e (bytes_es es r))) (first_e e) t (rest_e e (bytes_es es r)) bs (lex_e e (bytes_es es r)) q in
-    subst (λ (u : Token). HeadsEs u bs (e ∷ es) r) w.0 (own_es e es bs r)
-
--- COMMANDS
+-- commands
 abbrev pub first_c : Cmd → Token
 first_c (set x e) = Set (cap x)
 first_c (store n d e) = Store (cap n)
@@ -200,11 +148,6 @@ lex_c (to_door d e) r = ap (one 38) (reads_n d (bytes_e e r))
 
 abbrev pub HeadsCs : Token → List ℕ → Cmds → List ℕ → Type 0
 HeadsCs End bs ds r = (ds ≡ none) × (bs ≡ r)
-HeadsCs (Word v) bs ds r = ⊥
-HeadsCs (Var v) bs ds r = ⊥
-HeadsCs (Load v) bs ds r = ⊥
-HeadsCs Choice bs ds r = ⊥
-HeadsCs (Binary o) bs ds r = ⊥
 HeadsCs (Set v) bs ds r = (x : ℕ) × (e : Expr) × (cs : Cmds) × (ds ≡ more (set x e) cs) × (v ≡ cap x) × (bs ≡ bytes_e e (bytes_cs cs r))
 HeadsCs (Store v) bs ds r = (n : ℕ) × (d : Expr) × (e : Expr) × (cs : Cmds) × (ds ≡ more (store n d e) cs) × (v ≡ cap n) × (bs ≡ bytes_e d (bytes_e e (bytes_cs cs r)))
 HeadsCs If bs ds r = (e : Expr) × (ts : Cmds) × (es : Cmds) × (cs : Cmds) × (ds ≡ more (if_then e ts es) cs) × (bs ≡ bytes_e e (bytes_cs ts (bytes_cs es (bytes_cs cs r))))
@@ -213,7 +156,7 @@ HeadsCs (Call v) bs ds r =
     (g : ℕ) × (es : List Expr) × (xs : List ℕ) × (cs : Cmds) × (ds ≡ more (call g es xs) cs) × (v ≡ cap g) × (bs ≡ bytes_es es (bytes_v xs (bytes_cs cs r)))
 HeadsCs (From v w) bs ds r = (x : ℕ) × (d : ℕ) × (cs : Cmds) × (ds ≡ more (from_door x d) cs) × (v ≡ cap x) × (w ≡ cap d) × (bs ≡ bytes_cs cs r)
 HeadsCs (To v) bs ds r = (d : ℕ) × (e : Expr) × (cs : Cmds) × (ds ≡ more (to_door d e) cs) × (v ≡ cap d) × (bs ≡ bytes_e e (bytes_cs cs r))
-HeadsCs (Header v w) bs ds r = ⊥
+HeadsCs _ bs ds r = ⊥
 
 own_c : (c : Cmd) (cs : Cmds) (bs r : List ℕ) → bs ≡ rest_c c (bytes_cs cs r) → HeadsCs (first_c c) bs (more c cs) r
 own_c (set x e) cs bs r q = (x, e, cs, refl, refl, q)
@@ -232,26 +175,15 @@ head_cs (more c cs) r bs t q =
     let w : (first_c c ≡ t) × (rest_c c (bytes_cs cs r) ≡ bs) = same_token (lex (bytes_c c (bytes_cs cs r))) (first_c c) t (rest_c c (bytes_cs cs r)) bs (lex_c c (bytes_cs cs r)) q in
     subst (λ (u : Token). HeadsCs u bs (more c cs) r) w.0 (own_c c cs bs r (sym w.1))
 
--- FUNCTIONS
+-- functions
 pub lex_f : (f : Function) (r : List ℕ) → lex (48 ∷ bytes_n f.arguments (bytes_n f.variables r)) ≡ Some (Header (cap f.arguments) (cap f.variables), r)
 unfolding lex count token_of
 lex_f f r = ap (two 48) (reads_n f.arguments (bytes_n f.variables r)) ∙ ap (one_more 48 (cap f.arguments)) (reads_n f.variables r)
 
 abbrev pub HeadsP : Token → List ℕ → Program → List ℕ → Type 0
 HeadsP End bs p r = (p ≡ []) × (bs ≡ r)
-HeadsP (Word v) bs p r = ⊥
-HeadsP (Var v) bs p r = ⊥
-HeadsP (Load v) bs p r = ⊥
-HeadsP Choice bs p r = ⊥
-HeadsP (Binary o) bs p r = ⊥
-HeadsP (Set v) bs p r = ⊥
-HeadsP (Store v) bs p r = ⊥
-HeadsP If bs p r = ⊥
-HeadsP While bs p r = ⊥
-HeadsP (Call v) bs p r = ⊥
-HeadsP (From v w) bs p r = ⊥
-HeadsP (To v) bs p r = ⊥
 HeadsP (Header v w) bs p r = (f : Function) × (fs : Program) × (p ≡ f ∷ fs) × (v ≡ cap f.arguments) × (w ≡ cap f.variables) × (bs ≡ bytes_v f.results (bytes_cs f.body (bytes_p fs r)))
+HeadsP _ bs p r = ⊥
 
 pub head_p : (p : Program) (r bs : List ℕ) (t : Token) → lex (bytes_p p r) ≡ Some (t, bs) → HeadsP t bs p r
 head_p [] r bs t q =
@@ -263,49 +195,24 @@ head_p (f ∷ fs) r bs t q =
     same_token (lex (bytes_p (f ∷ fs) r)) (Header (cap f.arguments) (cap f.variables)) t xs bs (lex_f f xs) q in
     subst (λ (u : Token). HeadsP u bs (f ∷ fs) r) w.0 (f, fs, refl, refl, refl, sym w.1)
 
--- AT A PLACE: what the lexer answered, where a tree's bytes stand
-module _ (text : List ℕ) (at : ℕ) (n : Next) (s : Nexts text at (Some n)) where
-  pub at_e : (e : Expr) (r : List ℕ) → drop at text ≡ bytes_e e r → HeadsE n.token (drop n.end text) e r
-  at_e e r q = head_e e r (drop n.end text) n.token (ap lex (sym q) ∙ s.0)
-
-  pub at_es : (es : List Expr) (r : List ℕ) → drop at text ≡ bytes_es es r → HeadsEs n.token (drop n.end text) es r
-  at_es es r q = head_es es r (drop n.end text) n.token (ap lex (sym q) ∙ s.0)
-
-  pub at_v : (xs r : List ℕ) → drop at text ≡ bytes_v xs r → HeadsV n.token (drop n.end text) xs r
-  at_v xs r q = head_v xs r (drop n.end text) n.token (ap lex (sym q) ∙ s.0)
-
-  pub at_cs : (cs : Cmds) (r : List ℕ) → drop at text ≡ bytes_cs cs r → HeadsCs n.token (drop n.end text) cs r
-  at_cs cs r q = head_cs cs r (drop n.end text) n.token (ap lex (sym q) ∙ s.0)
-
-  pub at_p : (p : Program) (r : List ℕ) → drop at text ≡ bytes_p p r → HeadsP n.token (drop n.end text) p r
-  at_p p r q = head_p p r (drop n.end text) n.token (ap lex (sym q) ∙ s.0)
-
 -- some token stands at the front of a tree's bytes
-module _ (text : List ℕ) (at : ℕ) (s : Nexts text at None) where
-  pub not_e : (e : Expr) (r : List ℕ) → drop at text ≡ bytes_e e r → ⊥
-  not_e e r q = never (lex (drop at text)) (first_e e, rest_e e r) s (ap lex q ∙ lex_e e r)
+module _ (now : List ℕ) (s : lex now ≡ None) where
+  pub not_e : (e : Expr) (r : List ℕ) → now ≡ bytes_e e r → ⊥
+  not_e e r q = never (lex now) (first_e e, rest_e e r) s (ap lex q ∙ lex_e e r)
 
-  pub not_end : (r : List ℕ) → drop at text ≡ 0 ∷ r → ⊥
-  not_end r q = never (lex (drop at text)) (End, r) s (ap lex q ∙ lex_end_byte r)
+  pub not_end : (r : List ℕ) → now ≡ 0 ∷ r → ⊥
+  not_end r q = never (lex now) (End, r) s (ap lex q ∙ lex_end_byte r)
 
-  pub not_es : (es : List Expr) (r : List ℕ) → drop at text ≡ bytes_es es r → ⊥
-  not_es [] r q = not_end r q
-  not_es (e ∷ es) r q = not_e e (bytes_es es r) q
-
-  pub not_v : (xs r : List ℕ) → drop at text ≡ bytes_v xs r → ⊥
+  pub not_v : (xs r : List ℕ) → now ≡ bytes_v xs r → ⊥
   not_v [] r q = not_end r q
-  not_v (x ∷ xs) r q = never (lex (drop at text)) (Var (cap x), bytes_v xs r) s (ap lex q ∙ lex_var x (bytes_v xs r))
+  not_v (x ∷ xs) r q = never (lex now) (Var (cap x), bytes_v xs r) s (ap lex q ∙ lex_var x (bytes_v xs r))
 
-  pub not_cs : (cs : Cmds) (r : List ℕ) → drop at text ≡ bytes_cs cs r → ⊥
+  pub not_cs : (cs : Cmds) (r : List ℕ) → now ≡ bytes_cs cs r → ⊥
   not_cs none r q = not_end r q
-  not_cs (more c cs) r q = never (lex (drop at text)) (first_c c, rest_c c (bytes_cs cs r)) s (ap lex q ∙ lex_c c (bytes_cs cs r))
+  not_cs (more c cs) r q = never (lex now) (first_c c, rest_c c (bytes_cs cs r)) s (ap lex q ∙ lex_c c (bytes_cs cs r))
 
-  pub not_p : (p : Program) (r : List ℕ) → drop at text ≡ bytes_p p r → ⊥
+  pub not_p : (p : Program) (r : List ℕ) → now ≡ bytes_p p r → ⊥
   not_p [] r q = not_end r q
   not_p (f ∷ fs) r q =
       let xs : List ℕ = bytes_v f.results (bytes_cs f.body (bytes_p fs r)) in
-      never (lex (drop at text)) (Header (cap f.arguments) (cap f.variables), xs) s (ap lex q ∙ lex_f f xs)
-
--- a number that was not capped is itself
-pub uncapped : (v n k : ℕ) → v ≡ cap n → v < k → k ≤ 18446744073709551615 → v ≡ n
-uncapped v n k e h l = omega arith
+      never (lex now) (Header (cap f.arguments) (cap f.variables), xs) s (ap lex q ∙ lex_f f xs)

@@ -1,3 +1,5 @@
+pub mod Digits
+pub mod Rests
 pub mod Back
 pub mod Sound
 pub mod Places

@@ -1,12 +1,10 @@
 -- A program as tokens, one for each part in the order of its bytes.
-use Rattle.std.specs.Prelude.{◌≡◌, ℕ, zero, suc, ◌+◌, ◌*◌, ◌<◌, ◌≤◌, min, cond, List, [], ◌∷◌, length, drop, Some, None, Option, ◌==◌, nat_lt}
+use Rattle.std.specs.Prelude.{◌≡◌, ℕ, zero, suc, ◌+◌, ◌*◌, ◌<◌, length, drop, min, Bool, true, false, cond, List, [], ◌∷◌, Some, None, Option, ◌==◌, nat_lt}
 use Rattle.model.specs.Source.{Op, add, sub, mul, mul_high, div, rem, and, or, xor, shift_right, shift_left, shift_signed, less_s, less, equal, Expr, word, var, load, op, if_not_zero, Cmd, set, store, if_then, while, call, from_door, to_door, Cmds, none, more, Program}
 use Rattle.words.specs.declared.operator.Operator.{Operator}
 use Rattle.words.specs.declared.operator.Operator.TheVariants.{Add, Sub, Mul, MulHigh, Div, Rem, And, Or, Xor, ShiftRight, ShiftLeft, ShiftSigned, LessSigned, Less, Equal}
 use Rattle.format.specs.declared.token.Token.{Token}
 use Rattle.format.specs.declared.token.Token.TheVariants.{End, Word, Var, Load, Choice, Operator as Binary, Set, Store, If, While, Call, From, To, Function as Header}
-use Rattle.format.specs.declared.token.Number.{Number}
-use Rattle.format.specs.declared.token.Next.{Next}
 
 -- a number, capped at the largest of 64 bits
 abbrev pub cap : ℕ → ℕ
@@ -73,18 +71,38 @@ abbrev pub Lexes : List ℕ → List Token → Type 0
 Lexes bs [] = bs ≡ []
 Lexes bs (t ∷ ts) = (r : List ℕ) × (lex bs ≡ Some (t, r)) × Lexes r ts
 
-abbrev pub ReadN : List ℕ → ℕ → Option Number → Type 0
-ReadN text at None = read_n (drop at text) ≡ None
-ReadN text at (Some n) = (v : ℕ) × (read_n (drop at text) ≡ Some (v, drop n.end text)) × (n.value ≡ cap v) × (at < n.end) × (n.end ≤ length text)
+-- one digit more before a value of 64 bits, which stops at the largest
+abbrev pub more_by : ℕ → ℕ → ℕ
+more_by v b = cap (cap (v * 128) + b)
 
-abbrev pub Nexts : List ℕ → ℕ → Option Next → Type 0
-Nexts text at None = lex (drop at text) ≡ None
-Nexts text at (Some n) = (lex (drop at text) ≡ Some (n.token, drop n.end text)) × (at < n.end) × (n.end ≤ length text)
+-- a number is taken from the front, capped; nothing is taken where there is none
+abbrev pub Reads : List ℕ → Option ℕ → List ℕ → Type 0
+Reads bs None rest = (read_n bs ≡ None) × (rest ≡ bs)
+Reads bs (Some v) rest = (w : ℕ) × (read_n bs ≡ Some (w, rest)) × (v ≡ cap w)
 
--- the token and its end, of a tag and its numbers
-abbrev pub Ending : ℕ → ℕ → ℕ → ℕ → Option Next → Type 0
-Ending b x y end None = token_of b x y ≡ None
-Ending b x y end (Some n) = (token_of b x y ≡ Some n.token) × (n.end ≡ end)
+-- what is left once some bytes were taken from the front
+pub record Rest (from to : List ℕ) : Type 0 where
+  pub taken : ℕ
+  pub is : to ≡ drop taken from
+
+-- a token is taken from the front
+abbrev pub TakesToken : List ℕ → Option Token → List ℕ → Type 0
+TakesToken bs None rest = lex bs ≡ None
+TakesToken bs (Some t) rest = lex bs ≡ Some (t, rest)
+
+-- the same, and nothing is taken where there is none
+abbrev pub Lexed : List ℕ → Option Token → List ℕ → Type 0
+Lexed bs None rest = (lex bs ≡ None) × (rest ≡ bs)
+Lexed bs (Some t) rest = lex bs ≡ Some (t, rest)
+
+-- some bytes are taken from the front, and these are left
+abbrev pub Taken : List ℕ → List ℕ → Type 0
+Taken bs rest = Rest bs rest × (length rest < length bs)
+
+-- the end of a list is taken from the front, if it stands there
+abbrev pub Ends : List ℕ → Bool → List ℕ → Type 0
+Ends bs true rest = bs ≡ 0 ∷ rest
+Ends bs false rest = (rest ≡ bs) × ((r : List ℕ) → bs ≡ 0 ∷ r → ⊥)
 
 -- the operator of the code that stands for one of the model
 abbrev pub operator_of : Op → Operator

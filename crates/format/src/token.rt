@@ -1,7 +1,7 @@
 // Tokens: a tag with the numbers that follow it, each capped at the largest u64.
 use words::operator::Operator;
 
-#[derive(Clone, Copy)]
+#[derive(Clone, Copy, PartialEq, Eq, Debug)]
 pub enum Token {
     // the end of a list
     End,
@@ -25,18 +25,4 @@ pub enum Token {
     To(u64),
     // arguments, variables
     Function(u64, u64),
-}
-
-// A number and where its bytes end.
-#[derive(Clone, Copy)]
-pub struct Number {
-    pub value: u64,
-    pub end: usize,
-}
-
-// A token and where its bytes end.
-#[derive(Clone, Copy)]
-pub struct Next {
-    pub token: Token,
-    pub end: usize,
 }

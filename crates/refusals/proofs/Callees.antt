@@ -1,16 +1,20 @@
 -- The events of a program, and calls of later functions.
-use Rattle.std.proofs.Common.{◌≡◌, ℕ, suc, ◌+◌, ◌<◌, ◌≤◌, Bool, true, false, ◌&&◌, List, [], ◌∷◌, length, get_or, Some, None, sym, refl, ap, ◌∙◌, add-one, arith}
+use Rattle.std.proofs.Common.{◌≡◌, ℕ, suc, ◌+◌, ◌<◌, ◌≤◌, ◌&&◌, List, [], ◌∷◌, ◌++◌, length, get_or, Some, None, Option, sym, refl, ap, ◌∙◌, add-one, arith}
 use Rattle.model.specs.Source.{Expr, word, var, load, op, if_not_zero, Cmd, set, store, if_then, while, call, from_door, to_door, Cmds, none, more, Program}
-use Rattle.model.specs.Promise.{after_c, after_cs, after_in}
+use Rattle.model.specs.Promise.{program, after_c, after_cs, after_in}
+use Rattle.format.specs.Format.{read}
 use Rattle.format.specs.declared.token.Token.{Token}
-use Rattle.format.specs.Tokens.{cap, tokens_e, tokens_es, tokens_v, tokens_c, tokens_cs, tokens}
+use Rattle.format.specs.Tokens.{cap, Lexes, tokens_e, tokens_es, tokens_v, tokens_c, tokens_cs, tokens}
 use Rattle.refusals.specs.declared.event.Event.{Event}
 use Rattle.refusals.specs.declared.event.Event.TheVariants.{Header as Headed, Call as Called}
-use Rattle.refusals.specs.declared.event.Found.{Found}
 use Rattle.refusals.specs.declared.event.Mode.TheVariants.{Body, Results, Arguments, Variables}
-use Rattle.refusals.specs.Events.{events, NextEvent, events_c, events_cs, events_p, opens_v, later_v, later, Follows}
-use Rattle.refusals.proofs.Capped.{cap_ltb, leb_cap, both, is_true, is_false}
-use Rattle.refusals.proofs.Eventful.{Pass, pass_on, pass_out, pass_end}
+use Rattle.refusals.specs.Events.{events, Evented, events_c, events_cs, events_p, later, Follows}
+use Rattle.refusals.proofs.Capped.{cap_ltb, leb_cap, both}
+use Rattle.refusals.proofs.Eventful.{answered, left}
+use Rattle.std.specs.Iterator.{Yields}
+use Rattle.refusals.specs.Pass.{Ran}
+use Rattle.refusals.specs.Tests.{told}
+use Rattle.format.proofs.Lexed.{lexes}
 
 plus_zero : (n : ℕ) → n + 0 ≡ n
 plus_zero n = omega arith
@@ -107,24 +111,26 @@ later_p n k [] h l = refl
 later_p n k (f ∷ fs) h l =
     (λ i. later n (add-one k i) (events_cs f.body (events_p fs))) ∙ later_cs n k (omega arith) l f.body (events_p fs) ∙ (λ i. after_cs k n f.body && later_p n (suc k) fs (omega arith) l i)
 
--- one pass
-pub opens_one : (v : Event) → opens_v v ≤ 1
-opens_one (Headed a r) = omega arith
-opens_one (Called g a r) = omega arith
+pub ahead : (text : List ℕ) (n : ℕ) (r : Option Unit) (p : Program) → n ≤ 18446744073709551615 → n ≡ length p → r ≡ told (later n 0 (events_p p)) tt → r ≡ told (after_in 0 (length p) p) tt
+ahead text n r p l s e = e ∙ (λ i. told (later_p n 0 p (omega arith) l i) tt) ∙ (λ i. told (after_in 0 (s i) p) tt)
 
-abbrev pub Later : List ℕ → ℕ → ℕ → ℕ → Type 0
-Later text n i k = Pass Bool text i (later n k) (later n 0)
+pub says : (text : List ℕ) (n : ℕ) (r : Option Unit) → n ≤ 18446744073709551615 → ((p : Program) → read text ≡ program p → r ≡ told (later n 0 (events_p p)) tt) → Follows text n r
+says text n None l h = λ p e s. grind (arith, ahead text n None p l s (h p e))
+says text n (Some u) l h = λ p e s. grind (arith, ahead text n (Some u) p l s (h p e))
 
-pub later_on : (text : List ℕ) (n i k m : ℕ) (x : Found) (b : Bool) (w : ℕ) → NextEvent text i (Some x) → b ≡ later_v n k x.event → b ≡ true → w ≡ opens_v x.event → m ≡ k + w → Later text n i k → Later text n x.end m
-later_on text n i k m x b w e q t v u d =
-    let s : k + opens_v x.event ≡ m = omega arith in
-    pass_on Bool text i x (later n k) (later n m) (later n 0) e (λ es. is_true (later_v n k x.event) (later n (k + opens_v x.event) es) (sym q ∙ t) ∙ (λ j. later n (s j) es)) d
+-- a check of the events of a program
+pub of_program : {S F : Type 0} (makes : S → List Event → Option F) (text : List ℕ) (s : S) (r : Option F) (p : Program) → ((i : ℕ) → get_or text i 0 < 256) → Ran Evented makes text s r → read text ≡ program p → r ≡ makes s (events_p p)
+of_program makes text s r p z a e = answered makes text s r (tokens p) a (lexes text p z e) ∙ ap (makes s) (eventful_p p)
 
-pub later_out : (text : List ℕ) (n i k : ℕ) (x : Found) (b : Bool) → ((j : ℕ) → get_or text j 0 < 256) → n ≤ 18446744073709551615 → NextEvent text i (Some x) → b ≡ later_v n k x.event → b ≡ false → Later text n i k → Follows text n None
-later_out text n i k x b z l e q t d p r s =
-    sym (pass_out Bool text i x (later n k) (later n 0) false p z r e (λ es. is_false (later_v n k x.event) (later n (k + opens_v x.event) es) (sym q ∙ t)) d
-    ∙ ap (later n 0) (eventful_p p) ∙ later_p n 0 p (omega arith) l ∙ (λ j. after_in 0 (s j) p))
+-- the events of a program, of which some were given
+module _ (text : List ℕ) (vs : List Event) (rest j : List ℕ) where
+  pub of_program_some : (x : Event) (p : Program) → ((i : ℕ) → get_or text i 0 < 256) → Yields Evented text vs rest → Evented rest (Some x) j → read text ≡ program p → (es : List Event) × (events_p p ≡ vs ++ (x ∷ es))
+  of_program_some x p z y e r =
+      let b : (us : List Token) × Lexes rest us × (events Body (tokens p) ≡ vs ++ events Body us) = left text vs rest (tokens p) y (lexes text p z r) in
+      let d : (us : List Token) × Lexes j us × (events Body b.0 ≡ x ∷ events Body us) = e.1 b.0 b.1 in
+      (events Body d.0, sym (eventful_p p) ∙ b.2 ∙ ap (λ (us : List Event). vs ++ us) d.2)
 
-pub later_end : (text : List ℕ) (n i k : ℕ) (u : Unit) → ((j : ℕ) → get_or text j 0 < 256) → n ≤ 18446744073709551615 → NextEvent text i None → Later text n i k → Follows text n (Some u)
-later_end text n i k u z l e d p r s =
-    sym (pass_end Bool text i (later n k) (later n 0) p z r e d ∙ ap (later n 0) (eventful_p p) ∙ later_p n 0 p (omega arith) l ∙ (λ j. after_in 0 (s j) p))
+  pub of_program_all : (p : Program) → ((i : ℕ) → get_or text i 0 < 256) → Yields Evented text vs rest → Evented rest None j → read text ≡ program p → events_p p ≡ vs ++ []
+  of_program_all p z y e r =
+      let b : (us : List Token) × Lexes rest us × (events Body (tokens p) ≡ vs ++ events Body us) = left text vs rest (tokens p) y (lexes text p z r) in
+      sym (eventful_p p) ∙ b.2 ∙ ap (λ (us : List Event). vs ++ us) (e b.0 b.1)

@@ -1,20 +1,19 @@
 -- Events in the tokens of a text, one after the other.
-use Rattle.std.proofs.Common.{◌≡◌, ℕ, zero, suc, ◌*◌, ◌<◌, ◌≤◌, List, [], ◌∷◌, ◌++◌, get_or, drop, Some, None, sym, refl, ap, ◌∙◌, subst, arith}
-use Rattle.model.specs.Source.{Program}
-use Rattle.model.specs.Promise.{program}
-use Rattle.format.specs.Format.{read}
+use Rattle.std.proofs.Common.{◌≡◌, ℕ, zero, suc, ◌+◌, ◌*◌, ◌^◌, ◌<◌, ◌≤◌, List, [], ◌∷◌, ◌++◌, Some, None, Option, sym, refl, ap, ◌∙◌, subst, arith}
 use Rattle.format.specs.declared.token.Token.{Token}
 use Rattle.format.specs.declared.token.Token.TheVariants.{End, Word, Var, Load, Choice, Operator as Binary, Set, Store, If, While, Call, From, To, Function as Header}
-use Rattle.format.specs.declared.token.Next.{Next}
-use Rattle.format.specs.Tokens.{lex, Lexes, Nexts, tokens}
-use Rattle.format.proofs.Lexed.{lexes}
+use Rattle.format.specs.Tokens.{lex, Lexes, Rest, Taken}
+use Rattle.format.proofs.Digits.{lex_shorter}
+use Rattle.format.proofs.Rests.{rest_all, rest_and, rest_shorter, rest_lex}
 use Rattle.refusals.specs.declared.event.Event.{Event}
-use Rattle.refusals.specs.declared.event.Found.{Found}
 use Rattle.refusals.specs.declared.event.Mode.{Mode}
 use Rattle.refusals.specs.declared.event.Mode.TheVariants.{Body, Results, Arguments, Variables}
-use Rattle.refusals.specs.declared.event.Step.TheVariants.{Goes, Gives}
-use Rattle.refusals.specs.Events.{up, at_end, after, events, Stepped, NextEvent}
-use Rattle.refusals.proofs.Passes.{Left, Remains, front, none_left, left_more}
+use Rattle.std.specs.declared.ops.ControlFlow.TheVariants.{Continue, Break}
+use Rattle.std.specs.Iterator.{Yields}
+use Rattle.std.proofs.lemmas.List.{append-nil}
+use Rattle.refusals.specs.Pass.{Ran}
+use Rattle.refusals.specs.Events.{up, at_end, after, events, Stepped, Counted, Evented}
+use Rattle.refusals.proofs.Answered.{front, none_left}
 
 -- counters stay below the place
 abbrev pub Counts : ℕ → Mode → Type 0
@@ -58,56 +57,68 @@ after_counts i j m (From x d) h c = more_counts i j m h c
 after_counts i j m (To d) h c = more_counts i j m h c
 after_counts i j m (Header a v) h c = omega arith
 
-pub step_counts : (i j : ℕ) (m k : Mode) (t : Token) → i < j → Counts i m → Stepped m t (Goes k) → Counts j k
+pub step_counts : (i j : ℕ) (m k : Mode) (t : Token) → i < j → Counts i m → Stepped m t (Continue k) → Counts j k
 step_counts i j m k t h c s = subst (λ (x : Mode). Counts j x) s.1 (after_counts i j m t h c)
 
--- from a place on, the events of what is left are those that were to come
-abbrev pub Coming : List ℕ → ℕ → ℕ → Mode → Type 0
-Coming text at i m = (ts : List Token) → Lexes (drop at text) ts → Left (List Event) text i (events m) (events Body) ts
+pub counted : (i : ℕ) (m : Mode) → i + 1 < 2 ^ 64 → Counts i m → Counted m
+counted i Body h c = tt
+counted i (Results a r) h c = omega arith
+counted i (Arguments g a e) h c = (omega arith, omega arith)
+counted i (Variables g a r) h c = omega arith
 
-pub coming_first : (text : List ℕ) (at : ℕ) → Coming text at at Body
-coming_first text at ts l = record { tokens_left = ts; stand = l; make = refl }
+-- an end of the bytes is left, and its events are those that were to come
+abbrev pub Coming : List ℕ → List ℕ → Mode → Type 0
+Coming from now m = Rest from now × ((ts : List Token) → Lexes from ts → (us : List Token) × Lexes now us × (events Body ts ≡ events m us))
 
-pub coming_on : (text : List ℕ) (at i : ℕ) (n : Next) (m k : Mode) → Nexts text i (Some n) → Stepped m n.token (Goes k) → Coming text at i m → Coming text at n.end k
-coming_on text at i n m k e s d ts l =
-    left_more (List Event) text i n (events m) (events k) (events Body) ts e (λ us. λ j. (s.0 j) ++ events (s.1 j) us) (d ts l)
+pub coming_first : (from : List ℕ) → Coming from from Body
+coming_first from = (rest_all from, λ ts l. (ts, l, refl))
 
-pub coming_out : (text : List ℕ) (at i : ℕ) (n : Next) (m : Mode) (x : Event) → at ≤ i → Nexts text i (Some n) → Stepped m n.token (Gives x) → Coming text at i m → NextEvent text at (Some (record { event = x; end = n.end }))
-coming_out text at i n m x h e s d = (
-  omega (arith, e.1),
-  e.2,
-  λ ts l.
-      let a : Left (List Event) text i (events m) (events Body) ts = d ts l in
-      let b : (vs : List Token) × Lexes (drop n.end text) vs × (a.tokens_left ≡ n.token ∷ vs) = front text i n a.tokens_left e a.stand in
-      (b.0, b.1, sym a.make ∙ ap (events m) b.2 ∙ (λ j. (s.0 j) ++ events (s.1 j) b.0)),
-)
+module _ (from now rest : List ℕ) (m : Mode) (t : Token) (is : lex now ≡ Some (t, rest)) (so : Coming from now m) where
+  taken : Taken from rest
+  taken = (rest_and from now rest so.0 (rest_lex now t rest is), omega (arith, lex_shorter now t rest is, rest_shorter from now so.0))
 
-pub coming_end : (text : List ℕ) (at i : ℕ) (m : Mode) → lex (drop i text) ≡ None → Coming text at i m → NextEvent text at None
-coming_end text at i m e d ts l =
-    let a : Left (List Event) text i (events m) (events Body) ts = d ts l in
-    sym a.make ∙ ap (events m) (none_left (drop i text) a.tokens_left e a.stand)
+  pub coming_on : (k : Mode) → Stepped m t (Continue k) → Coming from rest k
+  coming_on k s = (
+    taken.0,
+    λ ts l.
+        let a : (us : List Token) × Lexes now us × (events Body ts ≡ events m us) = so.1 ts l in
+        let b : (us : List Token) × Lexes rest us × (a.0 ≡ t ∷ us) = front now rest t a.0 is a.1 in
+        (b.0, b.1, a.2 ∙ ap (events m) b.2 ∙ (λ j. s.0 j ++ events (s.1 j) b.0)),
+  )
 
--- A PASS OVER EVENTS
-abbrev pub Pass : (A : Type 0) → List ℕ → ℕ → (List Event → A) → (List Event → A) → Type 0
-Pass A text i f g = Remains A text i (λ ts. f (events Body ts)) (λ ts. g (events Body ts))
+  pub coming_out : (e : Event) → Stepped m t (Break e) → Evented from (Some e) rest
+  coming_out e s = (
+    taken,
+    λ ts l.
+        let a : (us : List Token) × Lexes now us × (events Body ts ≡ events m us) = so.1 ts l in
+        let b : (us : List Token) × Lexes rest us × (a.0 ≡ t ∷ us) = front now rest t a.0 is a.1 in
+        (b.0, b.1, a.2 ∙ ap (events m) b.2 ∙ (λ j. s.0 j ++ events (s.1 j) b.0)),
+  )
 
-pub pass_on : (A : Type 0) (text : List ℕ) (i : ℕ) (x : Found) (f h g : List Event → A) → NextEvent text i (Some x) → ((es : List Event) → f (x.event ∷ es) ≡ h es) → Pass A text i f g → Pass A text x.end h g
-pass_on A text i x f h g e s d ts l =
-    let a : Left A text i (λ us. f (events Body us)) (λ us. g (events Body us)) ts = d ts l in
-    let b : (us : List Token) × Lexes (drop x.end text) us × (events Body a.tokens_left ≡ x.event ∷ events Body us) = e.2 a.tokens_left a.stand in
-    record { tokens_left = b.0; stand = b.1; make = sym (s (events Body b.0)) ∙ ap f (sym b.2) ∙ a.make }
+pub coming_end : (from now rest : List ℕ) (m : Mode) → lex now ≡ None → Coming from now m → Evented from None rest
+coming_end from now rest m n so ts l =
+    let a : (us : List Token) × Lexes now us × (events Body ts ≡ events m us) = so.1 ts l in
+    a.2 ∙ ap (events m) (none_left now a.0 n a.1)
 
-pub pass_out : (A : Type 0) (text : List ℕ) (i : ℕ) (x : Found) (f g : List Event → A) (v : A) (p : Program) → ((j : ℕ) → get_or text j 0 < 256) → read text ≡ program p → NextEvent text i (Some x) →
-    ((es : List Event) → f (x.event ∷ es) ≡ v) → Pass A text i f g → v ≡ g (events Body (tokens p))
-pass_out A text i x f g v p z r e s d =
-    let a : Left A text i (λ us. f (events Body us)) (λ us. g (events Body us)) (tokens p) = d (tokens p) (lexes text p z r) in
-    let b : (us : List Token) × Lexes (drop x.end text) us × (events Body a.tokens_left ≡ x.event ∷ events Body us) = e.2 a.tokens_left a.stand in
-    sym (s (events Body b.0)) ∙ ap f (sym b.2) ∙ a.make
+-- A CHECK OF EVENTS
+pub left : (bs : List ℕ) (vs : List Event) (rest : List ℕ) (ts : List Token) → Yields Evented bs vs rest → Lexes bs ts → (us : List Token) × Lexes rest us × (events Body ts ≡ vs ++ events Body us)
+left bs [] rest ts y l = (ts, subst (λ (r : List ℕ). Lexes r ts) y l, refl)
+left bs (v ∷ vs) rest ts y l =
+    let a : (us : List Token) × Lexes y.0 us × (events Body ts ≡ v ∷ events Body us) = y.1.1 ts l in
+    let b : (us : List Token) × Lexes rest us × (events Body a.0 ≡ vs ++ events Body us) = left y.0 vs rest a.0 y.2 a.1 in
+    (b.0, b.1, a.2 ∙ ap (λ (us : List Event). v ∷ us) b.2)
 
-pub pass_end : (A : Type 0) (text : List ℕ) (i : ℕ) (f g : List Event → A) (p : Program) → ((j : ℕ) → get_or text j 0 < 256) → read text ≡ program p → NextEvent text i None → Pass A text i f g → f [] ≡ g (events Body (tokens p))
-pass_end A text i f g p z r e d =
-    let a : Left A text i (λ us. f (events Body us)) (λ us. g (events Body us)) (tokens p) = d (tokens p) (lexes text p z r) in
-    ap f (sym (e a.tokens_left a.stand)) ∙ a.make
+pub answered : {S F : Type 0} (makes : S → List Event → Option F) (bs : List ℕ) (s : S) (r : Option F) (ts : List Token) → Ran Evented makes bs s r → Lexes bs ts → r ≡ makes s (events Body ts)
+answered makes bs s None ts a l =
+    let b : (us : List Token) × Lexes a.1 us × (events Body ts ≡ a.0 ++ events Body us) = left bs a.0 a.1 ts a.2 l in
+    let d : (us : List Token) × Lexes a.3.1 us × (events Body b.0 ≡ a.3.0 ∷ events Body us) = a.3.2.1 b.0 b.1 in
+    sym (ap (makes s) (b.2 ∙ ap (λ (us : List Event). a.0 ++ us) d.2) ∙ a.3.3 (events Body d.0))
+answered makes bs s (Some v) ts a l =
+    let b : (us : List Token) × Lexes a.1 us × (events Body ts ≡ a.0 ++ events Body us) = left bs a.0 a.1 ts a.2 l in
+    sym (ap (makes s) (b.2 ∙ ap (λ (us : List Event). a.0 ++ us) (a.3.0.1 b.0 b.1) ∙ append-nil a.0) ∙ a.3.1)
 
-pub no_event : (text : List ℕ) (i : ℕ) → lex (drop i text) ≡ None → NextEvent text i None
-no_event text i e ts l = ap (events Body) (none_left (drop i text) ts e l)
+-- the events that were all given are the program's
+pub drained : (bs : List ℕ) (vs : List Event) (rest j : List ℕ) (ts : List Token) → Yields Evented bs vs rest → Evented rest None j → Lexes bs ts → events Body ts ≡ vs
+drained bs vs rest j ts y n l =
+    let b : (us : List Token) × Lexes rest us × (events Body ts ≡ vs ++ events Body us) = left bs vs rest ts y l in
+    b.2 ∙ ap (λ (us : List Event). vs ++ us) (n b.0 b.1) ∙ append-nil vs

@@ -1,9 +1,8 @@
 -- The depth of expressions and of blocks, over tokens.
-use Rattle.std.specs.Prelude.{◌≡◌, ℕ, zero, suc, ◌<◌, ◌≤◌, Bool, true, false, ◌&&◌, List, [], ◌∷◌, length, Some, None, Option, nat_lt, slice_index}
+use Rattle.std.specs.Prelude.{◌≡◌, ℕ, zero, suc, ◌<◌, ◌≤◌, Bool, true, ◌&&◌, List, [], ◌∷◌, length, Some, None, Option, nat_lt}
 use Rattle.model.specs.Source.{Program}
 use Rattle.model.specs.Promise.{program, all_deep}
 use Rattle.format.specs.Format.{read}
-use Rattle.refusals.specs.declared.depth.Nest.{Nest}
 use Rattle.format.specs.declared.token.Token.{Token}
 use Rattle.format.specs.declared.token.Token.TheVariants.{End, Word, Var, Load, Choice, Operator as Binary, Set, Store, If, While, Call, From, To, Function as Header}
 
@@ -47,32 +46,10 @@ deep_ts es rs l (From x d ∷ ts) = deep_ts es rs l ts
 deep_ts es rs l (To d ∷ ts) = deep_ts es rs l ts
 deep_ts es rs l (Header a v ∷ ts) = deep_ts es rs 1 ts
 
--- counters in an array, so many of them, the last first
-abbrev pub levels : List ℕ → ℕ → List ℕ
-levels xs zero = []
-levels xs (suc d) = slice_index xs d ∷ levels xs d
-
-abbrev pub nest : ℕ → ℕ → ℕ → Option Nest
-nest e b l = Some (record { exprs = e; blocks = b; lists = l })
-
--- one more level, or no room for it
-abbrev pub Opened : List ℕ → ℕ → ℕ → List ℕ → Option ℕ → Type 0
-Opened xs d a ys None = 32 ≤ d
-Opened xs d a ys (Some e) = (e ≤ 32) × (d < 32) × (levels ys e ≡ a ∷ levels xs d)
-
-abbrev pub OpenedExpr : List ℕ → Nest → ℕ → List ℕ → Option Nest → Type 0
-OpenedExpr xs n a ys None = 32 ≤ n.exprs
-OpenedExpr xs n a ys (Some m) = Opened xs n.exprs a ys (Some m.exprs) × (m.blocks ≡ n.blocks) × (m.lists ≡ n.lists)
-
-abbrev pub OpenedBlock : List ℕ → Nest → ℕ → List ℕ → Option Nest → Type 0
-OpenedBlock xs n a ys None = 32 ≤ n.blocks
-OpenedBlock xs n a ys (Some m) = Opened xs n.blocks a ys (Some m.blocks) × (m.exprs ≡ n.exprs) × (m.lists ≡ n.lists)
-
-abbrev pub Stepped : List ℕ → List ℕ → Nest → Token → List ℕ → List ℕ → Option Nest → Type 0
-Stepped es rs n t es2 rs2 None = (ts : List Token) → deep_ts (levels es n.exprs) (levels rs n.blocks) n.lists (t ∷ ts) ≡ false
-Stepped es rs n t es2 rs2 (Some m) =
-    (m.exprs ≤ 32) × (m.blocks ≤ 32)
-    × ((ts : List Token) → deep_ts (levels es n.exprs) (levels rs n.blocks) n.lists (t ∷ ts) ≡ deep_ts (levels es2 m.exprs) (levels rs2 m.blocks) m.lists ts)
+-- one more level, of so many parts, or no room for it
+abbrev pub Pushed : List ℕ → ℕ → Option Unit → List ℕ → Type 0
+Pushed xs a None ys = 32 ≤ length xs
+Pushed xs a (Some u) ys = (length xs < 32) × (ys ≡ a ∷ xs)
 
 abbrev pub WithinDepth : List ℕ → Bool → Type 0
 WithinDepth text r = (p : Program) → read text ≡ program p → r ≡ all_deep p

@@ -1,18 +1,17 @@
 -- The functions and the calls of a program, as events in the order of its tokens.
-use Rattle.std.specs.Prelude.{◌≡◌, ℕ, zero, suc, ◌+◌, ◌^◌, ◌<◌, ◌≤◌, Bool, true, false, ◌&&◌, List, [], ◌∷◌, ◌++◌, length, drop, Some, None, Option, nat_le, nat_lt}
+use Rattle.std.specs.Prelude.{◌≡◌, ℕ, zero, suc, ◌+◌, ◌^◌, ◌<◌, Bool, true, false, ◌&&◌, List, [], ◌∷◌, ◌++◌, length, Some, None, Option, nat_le, nat_lt}
 use Rattle.model.specs.Source.{Cmd, set, store, if_then, while, call, from_door, to_door, Cmds, none, more, Program}
 use Rattle.model.specs.Promise.{program, after_in}
 use Rattle.format.specs.Format.{read}
-use Rattle.format.specs.Tokens.{cap, Lexes}
+use Rattle.format.specs.Tokens.{cap, Lexes, Taken}
 use Rattle.format.specs.declared.token.Token.{Token}
 use Rattle.format.specs.declared.token.Token.TheVariants.{End, Word, Var, Load, Choice, Operator as Binary, Set, Store, If, While, Call, From, To, Function as Header}
 use Rattle.refusals.specs.declared.event.Event.{Event}
 use Rattle.refusals.specs.declared.event.Event.TheVariants.{Header as Headed, Call as Called}
-use Rattle.refusals.specs.declared.event.Found.{Found}
 use Rattle.refusals.specs.declared.event.Mode.{Mode}
 use Rattle.refusals.specs.declared.event.Mode.TheVariants.{Body, Results, Arguments, Variables}
-use Rattle.refusals.specs.declared.event.Step.{Step}
-use Rattle.refusals.specs.declared.event.Step.TheVariants.{Goes, Gives}
+use Rattle.std.specs.declared.ops.ControlFlow.{ControlFlow}
+use Rattle.std.specs.declared.ops.ControlFlow.TheVariants.{Continue, Break}
 
 -- an expression, or a variable of a list, begins, with so many parts
 abbrev pub up : ℕ → Mode → Mode
@@ -72,9 +71,9 @@ abbrev pub events : Mode → List Token → List Event
 events m [] = []
 events m (t ∷ ts) = gives m t ++ events (after m t) ts
 
-abbrev pub Stepped : Mode → Token → Step → Type 0
-Stepped m t (Goes k) = (gives m t ≡ []) × (after m t ≡ k)
-Stepped m t (Gives e) = (gives m t ≡ e ∷ []) × (after m t ≡ Body)
+abbrev pub Stepped : Mode → Token → ControlFlow Event Mode → Type 0
+Stepped m t (Continue k) = (gives m t ≡ []) × (after m t ≡ k)
+Stepped m t (Break e) = (gives m t ≡ e ∷ []) × (after m t ≡ Body)
 
 -- counters that one more token can't overflow
 abbrev pub Counted : Mode → Type 0
@@ -83,12 +82,10 @@ Counted (Results a r) = r + 1 < 2 ^ 64
 Counted (Arguments g a e) = (a + 1 < 2 ^ 64) × (e < 2 ^ 100)
 Counted (Variables g a r) = r + 1 < 2 ^ 64
 
--- the event that comes first in the tokens from a place on
-abbrev pub NextEvent : List ℕ → ℕ → Option Found → Type 0
-NextEvent text at None = (ts : List Token) → Lexes (drop at text) ts → events Body ts ≡ []
-NextEvent text at (Some f) =
-    (at < f.end) × (f.end ≤ length text)
-    × ((ts : List Token) → Lexes (drop at text) ts → (us : List Token) × Lexes (drop f.end text) us × (events Body ts ≡ f.event ∷ events Body us))
+-- the event that comes first in the tokens of bytes; what is left is an end of the bytes, some of which it took
+abbrev pub Evented : List ℕ → Option Event → List ℕ → Type 0
+Evented bs None rest = (ts : List Token) → Lexes bs ts → events Body ts ≡ []
+Evented bs (Some e) rest = Taken bs rest × ((ts : List Token) → Lexes bs ts → (us : List Token) × Lexes rest us × (events Body ts ≡ e ∷ events Body us))
 
 -- the events of a tree, before others
 abbrev mutual

@@ -1,44 +1,51 @@
 // Calls of functions that come after the caller.
-ghost use Rattle.refusals.specs.Events.{opens_v, later_v, Follows};
-ghost use Rattle.std.specs.Prelude.{◌≡◌};
+ghost use Rattle.refusals.specs.Events.{Follows};
 
-use crate::event::{Event, next_event};
+use crate::event::Event;
+use crate::pass::{Check, over_events};
 
-// One for a function.
-pub fn opens(e: Event) -> usize
-    ensures { result ≡ opens_v e }
-{
-    match e {
-        Event::Header(_, _) => 1,
-        Event::Call(_, _, _) => 0,
-    }
+// How many functions have begun, of so many.
+#[derive(Drop)]
+struct Forward {
+    functions: usize,
+    begun: usize,
 }
 
-// Whether a call is of a function that comes later, where so many have begun, and is there.
-fn later(functions: usize, begun: usize, e: Event) -> bool
-    ensures { result ≡ later_v functions begun e }
-{
-    match e {
-        Event::Header(_, _) => true,
-        Event::Call(g, _, _) => g >= begun as u64 && g < functions as u64,
+impl Check<Event> for Forward {
+    type Found = ();
+
+    ghost use Rattle.std.specs.Prelude.{◌-◌, ◌^◌};
+    ghost use Rattle.refusals.specs.Tests.{told};
+    ghost use Rattle.refusals.specs.Events.{later};
+
+    ghost makes = { λ c vs. told (later c.functions c.begun vs) tt };
+
+    ghost room = { λ c. 2 ^ 64 - 1 - c.begun };
+
+    fn step(&mut self, event: Event) -> Option<()> {
+        match event {
+            Event::Header(_, _) => self.begun += 1,
+            Event::Call(function, _, _) => {
+                if !(self.begun as u64..self.functions as u64).contains(&function) {
+                    return None;
+                }
+            }
+        }
+        Some(())
     }
+
+    fn finish(self) {}
 }
 
-// Whether every call of the program that the text is, of so many functions, is of a later one.
+/// Whether every call of the program that the text is, of so many functions, is of a later one.
 pub fn follows(text: &[u8], functions: usize) -> Option<()>
     ensures { Follows text.now functions result }
 {
-    let mut begun = 0;
-    let mut i = 0;
-    while i < text.len() {
-        let Some(f) = next_event(text, i) else {
-            return Some(());
-        };
-        if !later(functions, begun, f.event) {
-            return None;
-        }
-        begun += opens(f.event);
-        i = f.end;
-    }
-    Some(())
+    over_events(
+        Forward {
+            functions,
+            begun: 0,
+        },
+        text,
+    )
 }

@@ -1,150 +1,122 @@
 // Depth, with a counter for each level.
-ghost use Rattle.std.specs.Prelude.{◌≡◌, ◌<◌, ◌≤◌, length};
-ghost use Rattle.refusals.specs.Depth.{done, ended, levels, nest, Opened, OpenedExpr, OpenedBlock, Stepped, WithinDepth};
+ghost use Rattle.std.specs.Prelude.{◌≡◌, ◌<◌, ◌≤◌, [], ◌∷◌, length, true};
+ghost use Rattle.refusals.specs.Depth.{done, ended, Pushed, WithinDepth};
 
-use format::lexer::next;
+use crate::pass::{Check, over_tokens};
+use arrayvec::ArrayVec;
 use format::token::Token;
+use model::limits::MAX_DEPTH;
+use std::marker::Model;
 
-// How many levels of expressions and of blocks are open, and how many lists are still to end.
-#[derive(Clone, Copy)]
-pub struct Nest {
-    pub exprs: usize,
-    pub blocks: usize,
-    pub lists: u8,
+// Levels that may be open at once.
+const LEVELS: usize = MAX_DEPTH as usize;
+
+// The levels that are open, and how many parts each still has to come; contracts see them as a list, the innermost first.
+#[derive(Drop)]
+struct Levels {
+    counts: ArrayVec<u8, LEVELS>,
 }
 
-// One more part is there: which levels are still open.
-fn settle(counts: &mut [u8], depth: usize) -> usize
-    requires { depth ≤ length counts.old }
-    ensures levels { levels counts.new result ≡ done (levels counts.old depth) }
-    ensures within { result ≤ depth }
-{
-    let mut d = depth;
-    while d > 0 {
-        if counts[d - 1] > 1 {
-            counts[d - 1] -= 1;
-            return d;
+impl Model for Levels {
+    ghost use Rattle.std.specs.Prelude.{ℕ, List, reverse};
+
+    ghost Value = { List ℕ };
+
+    ghost view = { λ l. reverse l.counts.items };
+}
+
+impl Levels {
+    fn new() -> Levels
+        ensures { result ≡ [] }
+    {
+        Levels {
+            counts: ArrayVec::new(),
         }
-        d -= 1;
     }
-    0
-}
 
-// One more block is at its end.
-fn close(counts: &mut [u8], depth: usize) -> usize
-    requires { depth ≤ length counts.old }
-    ensures levels { levels counts.new result ≡ ended (levels counts.old depth) }
-    ensures within { result ≤ depth }
-{
-    if depth == 0 {
-        return 0;
-    }
-    if counts[depth - 1] > 1 {
-        counts[depth - 1] -= 1;
-        return depth;
-    }
-    depth - 1
-}
-
-// One more level, of so many parts, unless there are 32.
-fn open(counts: &mut [u8], depth: usize, parts: u8) -> Option<usize>
-    requires { length counts.old ≡ 32 }
-    ensures { Opened counts.old depth parts counts.new result }
-{
-    if depth >= 32 {
-        return None;
-    }
-    counts[depth] = parts;
-    Some(depth + 1)
-}
-
-// The levels after a token.
-fn nested(exprs: usize, blocks: usize, lists: u8) -> Option<Nest>
-    ensures { result ≡ nest exprs blocks lists }
-{
-    Some(Nest {
-        exprs,
-        blocks,
-        lists,
-    })
-}
-
-fn open_expr(counts: &mut [u8], n: Nest, parts: u8) -> Option<Nest>
-    requires { length counts.old ≡ 32 }
-    ensures { OpenedExpr counts.old n parts counts.new result }
-{
-    let Some(exprs) = open(counts, n.exprs, parts) else {
-        return None;
-    };
-    nested(exprs, n.blocks, n.lists)
-}
-
-fn open_block(counts: &mut [u8], n: Nest, parts: u8) -> Option<Nest>
-    requires { length counts.old ≡ 32 }
-    ensures { OpenedBlock counts.old n parts counts.new result }
-{
-    let Some(blocks) = open(counts, n.blocks, parts) else {
-        return None;
-    };
-    nested(n.exprs, blocks, n.lists)
-}
-
-// One token more, unless it goes too deep.
-fn step(expr_counts: &mut [u8], block_counts: &mut [u8], n: Nest, t: Token) -> Option<Nest>
-    requires { (length expr_counts.old ≡ 32) × (length block_counts.old ≡ 32) × (n.exprs ≤ 32) × (n.blocks ≤ 32) }
-    ensures { Stepped expr_counts.old block_counts.old n t expr_counts.new block_counts.new result }
-{
-    match t {
-        Token::End => {
-            if n.lists > 0 {
-                return nested(n.exprs, n.blocks, n.lists - 1);
+    // One more part is there: the levels all of whose parts are there end, each a part of the one outside it.
+    fn settle(&mut self)
+        ensures { self.new ≡ done self.old }
+    {
+        while let Some(parts) = self.counts.last_mut() {
+            if *parts > 1 {
+                *parts -= 1;
+                return;
             }
-            let b = close(block_counts, n.blocks);
-            nested(n.exprs, b, 0)
+            self.counts.pop();
         }
-        Token::Word(_) => {
-            let e = settle(expr_counts, n.exprs);
-            nested(e, n.blocks, n.lists)
+    }
+
+    // One more part is at its end.
+    fn close(&mut self)
+        ensures { self.new ≡ ended self.old }
+    {
+        if let Some(parts) = self.counts.last_mut() {
+            if *parts > 1 {
+                *parts -= 1;
+            } else {
+                self.counts.pop();
+            }
         }
-        Token::Var(_) => {
-            let e = settle(expr_counts, n.exprs);
-            nested(e, n.blocks, n.lists)
-        }
-        Token::Load(_) => open_expr(expr_counts, n, 1),
-        Token::Operator(_) => open_expr(expr_counts, n, 2),
-        Token::Choice => open_expr(expr_counts, n, 3),
-        Token::If => open_block(block_counts, n, 2),
-        Token::While => open_block(block_counts, n, 1),
-        Token::Call(_) => nested(n.exprs, n.blocks, 2),
-        Token::Function(_, _) => nested(n.exprs, n.blocks, 1),
-        Token::Set(_) => Some(n),
-        Token::Store(_) => Some(n),
-        Token::From(_, _) => Some(n),
-        Token::To(_) => Some(n),
+    }
+
+    // One more level, of so many parts, unless it is one too many.
+    fn open(&mut self, parts: u8) -> Option<()>
+        ensures { Pushed self.old parts result self.new }
+    {
+        self.counts.try_push(parts).ok()
     }
 }
 
-// Whether the program that the text is goes at most 32 levels deep.
+// The levels of expressions and of blocks, and how many lists are still to end: one of a function, two of a call.
+#[derive(Drop)]
+struct Nesting {
+    exprs: Levels,
+    blocks: Levels,
+    lists: u8,
+}
+
+impl Check<Token> for Nesting {
+    type Found = ();
+
+    ghost use Rattle.refusals.specs.Tests.{told};
+    ghost use Rattle.refusals.specs.Depth.{deep_ts};
+    ghost use Rattle.std.specs.Prelude.{◌-◌, ◌^◌};
+
+    ghost makes = { λ c ts. told (deep_ts c.exprs c.blocks c.lists ts) tt };
+
+    ghost room = { λ c. 2 ^ 64 };
+
+    #[tactic(auto, unfolding(crate::specs::Depth::deep_ts))]
+    fn step(&mut self, token: Token) -> Option<()> {
+        match token {
+            Token::End if self.lists > 0 => self.lists -= 1,
+            Token::End => self.blocks.close(),
+            Token::Word(_) | Token::Var(_) => self.exprs.settle(),
+            Token::Load(_) => self.exprs.open(1)?,
+            Token::Operator(_) => self.exprs.open(2)?,
+            Token::Choice => self.exprs.open(3)?,
+            Token::If => self.blocks.open(2)?,
+            Token::While => self.blocks.open(1)?,
+            Token::Call(_) => self.lists = 2,
+            Token::Function(_, _) => self.lists = 1,
+            Token::Set(_) | Token::Store(_) | Token::From(_, _) | Token::To(_) => {}
+        }
+        Some(())
+    }
+
+    #[tactic(auto, unfolding(crate::specs::Depth::deep_ts))]
+    fn finish(self) {}
+}
+
+/// Whether the program that the text is goes at most 32 levels deep.
 pub fn shallow(text: &[u8]) -> bool
     ensures { WithinDepth text.now result }
 {
-    let mut expr_counts = [0u8; 32];
-    let mut block_counts = [0u8; 32];
-    let mut nest = Nest {
-        exprs: 0,
-        blocks: 0,
+    let check = Nesting {
+        exprs: Levels::new(),
+        blocks: Levels::new(),
         lists: 0,
     };
-    let mut i = 0;
-    while i < text.len() {
-        let Some(n) = next(text, i) else {
-            return true;
-        };
-        let Some(m) = step(&mut expr_counts, &mut block_counts, nest, n.token) else {
-            return false;
-        };
-        nest = m;
-        i = n.end;
-    }
-    true
+    over_tokens(check, text).is_some()
 }

@@ -1,11 +1,12 @@
 // Functions and calls, with how many arguments and results each has, from a flat scan over tokens.
-ghost use Rattle.std.specs.Prelude.{◌≡◌, ◌^◌, ◌<◌, ◌≤◌};
-ghost use Rattle.refusals.specs.Events.{up, Stepped, Counted, NextEvent};
+ghost use Rattle.std.specs.Prelude.{◌≡◌};
 
-use format::lexer::next;
 use format::token::Token;
+use format::tokens::Tokens;
+use std::marker::Model;
+use std::ops::ControlFlow::{self, Break, Continue};
 
-#[derive(Clone, Copy)]
+#[derive(Clone, Copy, PartialEq, Eq, Debug)]
 pub enum Event {
     // a function's arguments and results
     Header(u64, usize),
@@ -13,15 +14,8 @@ pub enum Event {
     Call(u64, usize, usize),
 }
 
-// An event and where its bytes end.
-#[derive(Clone, Copy)]
-pub struct Found {
-    pub event: Event,
-    pub end: usize,
-}
-
-// Where a scan stands.
-#[derive(Clone, Copy)]
+/// Where a scan stands: a state that says what a token means, and so no closure.
+#[derive(Clone, Copy, PartialEq, Eq, Debug)]
 pub enum Mode {
     // among commands
     Body,
@@ -33,84 +27,111 @@ pub enum Mode {
     Variables(u64, usize, usize),
 }
 
-#[derive(Clone, Copy)]
-pub enum Step {
-    Goes(Mode),
-    Gives(Event),
-}
+impl Mode {
+    ghost use Rattle.std.specs.Prelude.{◌≡◌, ◌≤◌};
+    ghost use Rattle.refusals.specs.Events.{up, Stepped, Counted};
 
-// An expression begins that has so many parts.
-fn begin(mode: Mode, parts: u128) -> Mode
-    requires { Counted mode × (parts ≤ 3) }
-    ensures { result ≡ up parts mode }
-{
-    match mode {
-        Mode::Body => Mode::Body,
-        Mode::Results(a, r) => Mode::Results(a, r + 1),
-        Mode::Arguments(g, a, e) => {
-            if e == 0 {
-                return Mode::Arguments(g, a + 1, parts);
+    // An expression begins that has so many parts.
+    fn begin(self, parts: u128) -> Mode
+        requires { Counted self × (parts ≤ 3) }
+        ensures { result ≡ up parts self }
+    {
+        match self {
+            Mode::Body => Mode::Body,
+            Mode::Results(arguments, results) => Mode::Results(arguments, results + 1),
+            Mode::Arguments(function, arguments, 0) => {
+                Mode::Arguments(function, arguments + 1, parts)
             }
-            Mode::Arguments(g, a, e - 1 + parts)
-        }
-        Mode::Variables(g, a, r) => Mode::Variables(g, a, r + 1),
-    }
-}
-
-// A list ends.
-fn finish(mode: Mode) -> Step
-    ensures { Stepped mode Token.End result }
-{
-    match mode {
-        Mode::Body => Step::Goes(Mode::Body),
-        Mode::Results(a, r) => Step::Gives(Event::Header(a, r)),
-        Mode::Arguments(g, a, _) => Step::Goes(Mode::Variables(g, a, 0)),
-        Mode::Variables(g, a, r) => Step::Gives(Event::Call(g, a, r)),
-    }
-}
-
-// One token more.
-fn advance(mode: Mode, t: Token) -> Step
-    requires { Counted mode }
-    ensures { Stepped mode t result }
-{
-    match t {
-        Token::End => finish(mode),
-        Token::Word(_) => Step::Goes(begin(mode, 0)),
-        Token::Var(_) => Step::Goes(begin(mode, 0)),
-        Token::Load(_) => Step::Goes(begin(mode, 1)),
-        Token::Operator(_) => Step::Goes(begin(mode, 2)),
-        Token::Choice => Step::Goes(begin(mode, 3)),
-        Token::Call(g) => Step::Goes(Mode::Arguments(g, 0, 0)),
-        Token::Function(a, _) => Step::Goes(Mode::Results(a, 0)),
-        Token::Set(_) => Step::Goes(mode),
-        Token::Store(_) => Step::Goes(mode),
-        Token::If => Step::Goes(mode),
-        Token::While => Step::Goes(mode),
-        Token::From(_, _) => Step::Goes(mode),
-        Token::To(_) => Step::Goes(mode),
-    }
-}
-
-// The next event from `at` on, where a scan stands among commands.
-pub fn next_event(text: &[u8], at: usize) -> Option<Found>
-    ensures { NextEvent text.now at result }
-{
-    let mut mode = Mode::Body;
-    let mut i = at;
-    while i < text.len() {
-        let Some(n) = next(text, i) else {
-            return None;
-        };
-        match advance(mode, n.token) {
-            Step::Goes(m) => {
-                mode = m;
-                i = n.end;
+            Mode::Arguments(function, arguments, open) => {
+                Mode::Arguments(function, arguments, open - 1 + parts)
             }
-            Step::Gives(event) => {
-                return Some(Found { event, end: n.end });
+            Mode::Variables(function, arguments, results) => {
+                Mode::Variables(function, arguments, results + 1)
             }
         }
     }
-    None
+
+    // A list ends.
+    fn end(self) -> ControlFlow<Event, Mode>
+        ensures { Stepped self Token.End result }
+    {
+        match self {
+            Mode::Body => Continue(Mode::Body),
+            Mode::Results(arguments, results) => Break(Event::Header(arguments, results)),
+            Mode::Arguments(function, arguments, _) => {
+                Continue(Mode::Variables(function, arguments, 0))
+            }
+            Mode::Variables(function, arguments, results) => {
+                Break(Event::Call(function, arguments, results))
+            }
+        }
+    }
+
+    // One token more.
+    fn advance(self, token: Token) -> ControlFlow<Event, Mode>
+        requires { Counted self }
+        ensures { Stepped self token result }
+    {
+        match token {
+            Token::End => self.end(),
+            Token::Word(_) | Token::Var(_) => Continue(self.begin(0)),
+            Token::Load(_) => Continue(self.begin(1)),
+            Token::Operator(_) => Continue(self.begin(2)),
+            Token::Choice => Continue(self.begin(3)),
+            Token::Call(function) => Continue(Mode::Arguments(function, 0, 0)),
+            Token::Function(arguments, _) => Continue(Mode::Results(arguments, 0)),
+            _ => Continue(self),
+        }
+    }
+}
+
+/// The functions and calls of a text, one after the other.
+#[derive(Drop)]
+pub struct Events<'a> {
+    tokens: Tokens<'a>,
+}
+
+impl<'a> Model for Events<'a> {
+    ghost use Rattle.std.specs.Prelude.{ℕ, List, length, ◌<◌, ◌^◌};
+
+    ghost Value = { List ℕ };
+
+    ghost view = { λ e. e.tokens };
+
+    // every slice is shorter, so a count of its tokens stays below that
+    ghost invariant = { λ e. length e.tokens < 2 ^ 64 };
+}
+
+impl<'a> Events<'a> {
+    pub fn new(text: &'a [u8]) -> Events<'a>
+        ensures { result ≡ text.now }
+    {
+        Events {
+            tokens: Tokens::new(text),
+        }
+    }
+}
+
+impl Iterator for Events<'_> {
+    type Item = Event;
+
+    ghost use Rattle.std.specs.Prelude.{length};
+    ghost use Rattle.std.specs.Iterator.{at_most};
+    ghost use Rattle.refusals.specs.Events.{Evented};
+
+    ghost next_gives = { Evented };
+
+    ghost remaining = { λ e. at_most (length e) };
+
+    fn next(&mut self) -> Option<Event> {
+        let mut mode = Mode::Body;
+        // No `for`: it would lend the tokens out, and what is left of them is the answer.
+        'scan: while let Some(token) = self.tokens.next() {
+            match mode.advance(token) {
+                Continue(next) => mode = next,
+                Break(event) => return Some(event),
+            }
+        }
+        None
+    }
 }

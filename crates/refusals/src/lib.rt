@@ -6,6 +6,7 @@ pub mod calls;
 pub mod depth;
 pub mod event;
 pub mod limit;
+pub mod pass;
 pub mod range;
 pub mod refusal;
 pub mod scope;
@@ -22,7 +23,7 @@ use crate::refusal::{Checked, Refusal, Stage};
 use crate::scope::scopes;
 use format::scan::scan;
 
-// Whether a stage refuses a text, and why; or what is known of the program.
+/// Whether a stage refuses a text, and why; or what is known of the program.
 pub fn check(text: &[u8], stage: Stage) -> Result<Checked, Refusal>
     ensures { (l : Limits) → StageOf stage l → Listed l (read text.now) result }
 {

@@ -2,53 +2,25 @@
 // Words and instructions are an assembler's and a disassembler's: tests/vectors/instructions.py makes both files.
 #![tactic(auto)]
 
-mod names;
-
-use names::{condition_name, immediate_name, load_name, register_name, shift_name, store_name};
 use riscv::decoding::decode;
 use riscv::encoding::encode;
 use riscv::instruction::Instruction;
 use std::io;
 use std::io::{BufRead, BufReader};
 
-fn show(rt: &HostRuntime, w: u32, i: Instruction) -> io::Result<()> {
+fn show(rt: &impl Print, w: u32, i: Instruction) -> io::Result<()> {
     match i {
         Instruction::Lui(rd, imm) => println!(rt; "{w:08x} lui {rd} {imm}"),
         Instruction::Auipc(rd, imm) => println!(rt; "{w:08x} auipc {rd} {imm}"),
         Instruction::Jal(rd, imm) => println!(rt; "{w:08x} jal {rd} {imm}"),
         Instruction::Jalr(rd, rs1, imm) => println!(rt; "{w:08x} jalr {rd} {rs1} {imm}"),
-        Instruction::Branch(q, rs1, rs2, imm) => show_fields(
-            rt,
-            w,
-            condition_name(q),
-            rs1,
-            rs2,
-            imm,
-        ),
-        Instruction::Load(o, rd, rs1, imm) => show_fields(rt, w, load_name(o), rd, rs1, imm),
-        Instruction::Store(o, rs2, rs1, imm) => show_fields(rt, w, store_name(o), rs2, rs1, imm),
-        Instruction::Immediate(o, rd, rs1, imm) => show_fields(
-            rt,
-            w,
-            immediate_name(o),
-            rd,
-            rs1,
-            imm,
-        ),
-        Instruction::Shift(o, rd, rs1, n) => show_fields(rt, w, shift_name(o), rd, rs1, n as u32),
-        Instruction::Register(o, rd, rs1, rs2) => show_fields(
-            rt,
-            w,
-            register_name(o),
-            rd,
-            rs1,
-            rs2 as u32,
-        ),
+        Instruction::Branch(q, rs1, rs2, imm) => println!(rt; "{w:08x} {q} {rs1} {rs2} {imm}"),
+        Instruction::Load(o, rd, rs1, imm) => println!(rt; "{w:08x} {o} {rd} {rs1} {imm}"),
+        Instruction::Store(o, rs2, rs1, imm) => println!(rt; "{w:08x} {o} {rs2} {rs1} {imm}"),
+        Instruction::Immediate(o, rd, rs1, imm) => println!(rt; "{w:08x} {o} {rd} {rs1} {imm}"),
+        Instruction::Shift(o, rd, rs1, n) => println!(rt; "{w:08x} {o} {rd} {rs1} {n}"),
+        Instruction::Register(o, rd, rs1, rs2) => println!(rt; "{w:08x} {o} {rd} {rs1} {rs2}"),
     }
-}
-
-fn show_fields(rt: &HostRuntime, w: u32, name: &str, a: u8, b: u8, c: u32) -> io::Result<()> {
-    println!(rt; "{w:08x} {name} {a} {b} {c}")
 }
 
 fn main(rt: HostRuntime) -> io::Result<()> {

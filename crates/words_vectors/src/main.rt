@@ -2,7 +2,6 @@
 #![tactic(auto)]
 
 use std::io;
-use words::evaluation::apply;
 use words::operator::Operator;
 
 static EDGES: [u32; 10] = [
@@ -18,30 +17,19 @@ static EDGES: [u32; 10] = [
     0x1234_5678,
 ];
 
-fn show(rt: &HostRuntime, o: Operator, name: &str) -> io::Result<()> {
+fn show(rt: &impl Print, o: Operator) -> io::Result<()> {
     for a in &EDGES {
         for b in &EDGES {
-            let r = apply(o, *a, *b);
-            println!(rt; "{name} {a:08x} {b:08x} {r:08x}")?;
+            let r = o.apply(*a, *b);
+            println!(rt; "{o} {a:08x} {b:08x} {r:08x}")?;
         }
     }
     Ok(())
 }
 
 fn main(rt: HostRuntime) -> io::Result<()> {
-    show(&rt, Operator::Add, "add")?;
-    show(&rt, Operator::Sub, "sub")?;
-    show(&rt, Operator::Mul, "mul")?;
-    show(&rt, Operator::MulHigh, "mul-high")?;
-    show(&rt, Operator::Div, "div")?;
-    show(&rt, Operator::Rem, "rem")?;
-    show(&rt, Operator::And, "and")?;
-    show(&rt, Operator::Or, "or")?;
-    show(&rt, Operator::Xor, "xor")?;
-    show(&rt, Operator::ShiftRight, "shift-right")?;
-    show(&rt, Operator::ShiftLeft, "shift-left")?;
-    show(&rt, Operator::ShiftSigned, "shift-signed")?;
-    show(&rt, Operator::LessSigned, "less-signed")?;
-    show(&rt, Operator::Less, "less")?;
-    show(&rt, Operator::Equal, "equal")
+    for o in Operator::ALL {
+        show(&rt, o)?;
+    }
+    Ok(())
 }

@@ -1,51 +1,49 @@
 // What the command line asks for.
+ghost use Rattle.std.specs.Prelude.{◌≡◌, None, false, map, string_bytes};
+ghost use Rattle.yongidra.specs.CommandLine.{asked, wanted};
 
-#[derive(Clone, Copy)]
-pub enum Request {
+use thiserror::Error;
+
+#[derive(Clone, Copy, PartialEq, Eq, Debug)]
+pub enum Request<'a> {
     Help,
     Version,
-    // the arguments that name the file of the program and, if there is one, the file for the image
-    Compile(usize, Option<usize>),
-    Wrong(&'static str),
+    // the file of the program and, if one is named, the file for the image
+    Compile {
+        program: &'a str,
+        image: Option<&'a str>,
+    },
 }
 
-// The arguments after the program's own name.
-pub fn parse(args: &[String]) -> Request {
+#[derive(Clone, Copy, PartialEq, Eq, Debug, Error)]
+pub enum Mistake {
+    #[error("-o asks for the name of a file")]
+    NoImage,
+    #[error("there is no such option")]
+    NoSuchOption,
+    #[error("there is more than one file")]
+    ManyFiles,
+    #[error("there is no file")]
+    NoFile,
+}
+
+// The arguments after the program's own name, where the first that is a mistake, or asks for help or the version, decides.
+pub fn parse<'a>(args: &'a [String]) -> Result<Request<'a>, Mistake>
+    ensures { wanted result ≡ asked false None None (map string_bytes args.now) }
+{
     let mut program = None;
     let mut image = None;
-    let mut i = 1;
-    while i < args.len() {
-        let arg = args[i].as_str();
-        if arg == "--help" || arg == "-h" {
-            return Request::Help;
-        }
-        if arg == "--version" || arg == "-V" {
-            return Request::Version;
-        }
-        if arg == "-o" {
-            if i + 1 >= args.len() {
-                return Request::Wrong("-o asks for the name of a file");
-            }
-            image = Some(i + 1);
-            i += 2;
-        } else if arg.starts_with("-") {
-            return Request::Wrong("there is no such option");
-        } else if program.is_some() {
-            return Request::Wrong("there is more than one file");
-        } else {
-            program = Some(i);
-            i += 1;
+    let mut rest = args.iter();
+    while let Some(arg) = rest.next() {
+        match arg.as_str() {
+            "--help" | "-h" => return Ok(Request::Help),
+            "--version" | "-V" => return Ok(Request::Version),
+            "-o" => image = Some(rest.next().ok_or(Mistake::NoImage)?.as_str()),
+            option if option.starts_with("-") => return Err(Mistake::NoSuchOption),
+            _ if program.is_some() => return Err(Mistake::ManyFiles),
+            name => program = Some(name),
         }
     }
-    match program {
-        Some(p) => Request::Compile(p, image),
-        None => Request::Wrong("there is no file"),
-    }
-}
-
-pub fn argument(args: &[String], i: usize) -> &str {
-    match args.get(i) {
-        Some(arg) => arg.as_str(),
-        None => "",
-    }
+    let program = program.ok_or(Mistake::NoFile)?;
+    Ok(Request::Compile { program, image })
 }

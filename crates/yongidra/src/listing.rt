@@ -1,43 +1,31 @@
 // Code as text, a word in a line, and as bytes.
-ghost use Rattle.std.specs.Prelude.{◌≡◌, ◌<◌, ◌++◌, IfOk};
+ghost use Rattle.std.specs.Prelude.{◌≡◌, ◌++◌, IfOk};
 ghost use Rattle.std.specs.List.{flat_map};
-ghost use Rattle.yongidra.specs.Listing.{bytes_of, digit_of, line_of};
+ghost use Rattle.yongidra.specs.Listing.{bytes_of, line_of};
 
+use hex::encode_to_slice;
 use std::alloc::{AllocError, Global};
 
-fn digit(n: u32) -> u8
-    requires { n < 16 }
-    ensures { result ≡ digit_of n }
-{
-    if n < 10 {
-        return 48 + n as u8;
-    }
-    87 + n as u8
-}
+// The hexadecimal digits of a word, two for each byte.
+const DIGITS: usize = 8;
+
+const LINE: usize = DIGITS + 1;
 
 // Eight hexadecimal digits, the highest first, and the end of the line.
-pub fn line(w: u32) -> [u8; 9]
+#[tactic(auto, using(crate::proofs::Digits::encode_word))]
+pub fn line(w: u32) -> [u8; LINE]
     ensures { result ≡ line_of w }
 {
-    [
-        digit(w / 0x1000_0000 % 16),
-        digit(w / 0x100_0000 % 16),
-        digit(w / 0x10_0000 % 16),
-        digit(w / 0x1_0000 % 16),
-        digit(w / 0x1000 % 16),
-        digit(w / 0x100 % 16),
-        digit(w / 0x10 % 16),
-        digit(w % 16),
-        b'\n',
-    ]
+    let mut line = [b'\n'; LINE];
+    encode_to_slice(w.to_be_bytes(), &mut line[..DIGITS]).unwrap();
+    line
 }
 
 // The stack and then each word of code, a line each.
-pub fn listing(heap: Global, stack: u32, code: &[u32]) -> Result<Vec<u8>, AllocError>
-    ensures { IfOk result (λ v. v.items ≡ line_of stack ++ flat_map line_of code.now) }
+pub fn listing(alloc: Global, stack: u32, code: &[u32]) -> Result<Vec<u8>, AllocError>
+    ensures { IfOk result (λ text. text.items ≡ line_of stack ++ flat_map line_of code.now) }
 {
-    let mut text = Vec::with_capacity(heap, 9)?;
-    text.extend_from_slice(&line(stack))?;
+    let mut text = line(stack).to_vec(alloc)?;
     for w in code {
         text.extend_from_slice(&line(*w))?;
     }
@@ -45,10 +33,10 @@ pub fn listing(heap: Global, stack: u32, code: &[u32]) -> Result<Vec<u8>, AllocE
 }
 
 // The code as it is stored on a board: four bytes for each word, the low one first.
-pub fn image(heap: Global, code: &[u32]) -> Result<Vec<u8>, AllocError>
-    ensures { IfOk result (λ v. v.items ≡ flat_map bytes_of code.now) }
+pub fn image(alloc: Global, code: &[u32]) -> Result<Vec<u8>, AllocError>
+    ensures { IfOk result (λ bytes. bytes.items ≡ flat_map bytes_of code.now) }
 {
-    let mut bytes = Vec::new(heap);
+    let mut bytes = Vec::new(alloc);
     for w in code {
         bytes.extend_from_slice(&w.to_le_bytes())?;
     }

@@ -2,21 +2,20 @@
 #![tactic(auto)]
 
 mod command_line;
-mod explain;
+mod failure;
 mod listing;
 
-use command_line::{Request, argument, parse};
+use command_line::{Request, parse};
 use compiler::answer::Answer;
-use compiler::compile;
-use explain::explain;
+use compiler::{MOST_WORDS, compile};
+use failure::Failure;
 use listing::{image, listing};
-use std::alloc::AllocError;
 use std::io::Write;
 use std::process::ExitCode;
+use std::rt::{Env, Files};
 use std::{env, fs, io};
 
-// Code is never longer than this: 48 words for each of the size, which is at most 8192, and 64 more.
-const MOST_WORDS: usize = 48 * 8192 + 64;
+const VERSION: &str = "yongidra 0.1.0";
 
 const HELP: &str =
     "yongidra compiles a program for a sluice board to RISC-V code (RV32I with mul, mulhu, divu, remu).
@@ -33,110 +32,80 @@ the code needs, then the code, which stands from address 0 on.
 A program that is refused is named on standard error, with its number and place, and the status is 1.
 ";
 
-// The message is on standard error already.
-#[derive(Drop)]
-struct Failed;
+// The stack and the code go to standard output.
+fn list(rt: &(impl Print + AllocGlobal), stack: u32, code: &[u32]) -> io::Result<()> {
+    io::writer(rt).write_all(&listing(rt.alloc(), stack, code)?)
+}
 
-impl From<io::Error> for Failed {
-    fn from(_error: io::Error) -> Failed {
-        Failed
+// The code goes to a file.
+fn store(rt: &(impl Files + AllocGlobal), code: &[u32], path: &str) -> io::Result<()> {
+    fs::write(rt, path, &image(rt.alloc(), code)?)
+}
+
+// Of what is printed by itself the status alone tells that it did not come out.
+fn status(printed: io::Result<()>) -> ExitCode {
+    match printed {
+        Ok(()) => ExitCode::SUCCESS,
+        Err(_) => ExitCode::FAILURE,
     }
 }
 
-fn refuse(rt: &HostRuntime, number: u8, place: usize, words: &str) -> Result<(), Failed> {
-    eprintln!(rt; "refused {number} at {place}: {words}")?;
-    Err(Failed)
+fn deliver<'a>(
+    rt: &(impl Print + Files + AllocGlobal),
+    stack: u32,
+    code: &[u32],
+    image: Option<&'a str>,
+) -> Result<ExitCode, Failure<'a>> {
+    let Some(path) = image else {
+        list(rt, stack, code).map_err(|e| Failure::Io("standard output", e))?;
+        return Ok(ExitCode::SUCCESS);
+    };
+    store(rt, code, path).map_err(|e| Failure::Io(path, e))?;
+    Ok(status(println!(rt; "{stack:08x}")))
 }
 
-fn fail(rt: &HostRuntime, path: &str, error: io::Error) -> Result<(), Failed> {
-    eprintln!(rt; "yongidra: {path}: {error}")?;
-    Err(Failed)
-}
-
-// The answer goes to standard output, and the code to a file if one is named.
-fn deliver(rt: &HostRuntime, stack: u32, code: &[u32], to: Option<&str>) -> Result<(), Failed> {
-    let Some(path) = to else {
-        let text = match listing(rt.alloc(), stack, code) {
-            Ok(text) => text,
-            Err(e) => return fail(rt, "standard output", io::Error::from(e)),
-        };
-        return match rt.stdout().write_all(text.as_slice()) {
-            Ok(()) => Ok(()),
-            Err(e) => fail(rt, "standard output", e),
-        };
-    };
-    let bytes = match image(rt.alloc(), code) {
-        Ok(bytes) => bytes,
-        Err(e) => return fail(rt, path, io::Error::from(e)),
-    };
-    match fs::write(rt, path, bytes.as_slice()) {
-        Ok(()) => deliver_stack(rt, stack),
-        Err(e) => fail(rt, path, e),
+fn compile_file<'a>(
+    rt: &(impl Print + Files + AllocGlobal),
+    program: &'a str,
+    image: Option<&'a str>,
+) -> Result<ExitCode, Failure<'a>> {
+    let text = fs::read(rt, program).map_err(|e| Failure::Io(program, e))?;
+    let room = vec![in rt.alloc(); 0u32; MOST_WORDS];
+    let mut code = room.map_err(|e| Failure::Io(program, e.into()))?;
+    match compile(&text, &mut code) {
+        Answer::Refused(refusal) => Err(Failure::Refused(refusal)),
+        Answer::NoRoom(_) => unreachable!(),
+        Answer::Compiled(stack, words) => deliver(rt, stack, &code[..words], image),
     }
 }
 
-fn deliver_stack(rt: &HostRuntime, stack: u32) -> Result<(), Failed> {
-    println!(rt; "{stack:08x}")?;
-    Ok(())
-}
-
-fn run(rt: &HostRuntime, path: &str, to: Option<&str>) -> Result<(), Failed> {
-    let text = match fs::read(rt, path) {
-        Ok(text) => text,
-        Err(e) => return fail(rt, path, e),
-    };
-    let mut code = match Vec::from_elem(rt.alloc(), 0u32, MOST_WORDS) {
-        Ok(code) => code,
-        Err(e) => return fail(rt, path, io::Error::from(e)),
-    };
-    match compile(text.as_slice(), code.as_mut_slice()) {
-        Answer::Refused(r) => {
-            let e = explain(r);
-            refuse(rt, e.number, e.place, e.words)
-        }
-        Answer::NoRoom(_) => unreachable(),
-        Answer::Compiled(stack, words) => deliver(rt, stack, &code[0..words], to),
+fn run<'a>(
+    rt: &(impl Print + Files + AllocGlobal),
+    args: &'a [String],
+) -> Result<ExitCode, Failure<'a>> {
+    match parse(args)? {
+        Request::Help => Ok(status(rt.print(HELP))),
+        Request::Version => Ok(status(rt.println(VERSION))),
+        Request::Compile { program, image } => compile_file(rt, program, image),
     }
 }
 
-fn asked(rt: &HostRuntime, args: &[String]) -> Result<(), Failed> {
-    match parse(args) {
-        Request::Help => {
-            print!(rt; "{HELP}")?;
-            Ok(())
-        }
-        Request::Version => {
-            println!(rt; "yongidra 0.1.0")?;
-            Ok(())
-        }
-        Request::Wrong(words) => {
-            eprintln!(rt; "yongidra: {words}; see yongidra --help")?;
-            Err(Failed)
-        }
-        Request::Compile(program, None) => run(rt, argument(args, program), None),
-        Request::Compile(program, Some(image)) => run(
-            rt,
-            argument(args, program),
-            Some(argument(args, image)),
-        ),
-    }
-}
-
-fn started(rt: &HostRuntime) -> Result<(), Failed> {
-    let args = match env::args(rt) {
-        Ok(args) => args,
-        Err(e) => return fail(rt, "command line", e),
-    };
-    let args: Result<Vec<String>, AllocError> = args.collect(rt.alloc());
-    match args {
-        Ok(args) => asked(rt, args.as_slice()),
-        Err(e) => fail(rt, "command line", io::Error::from(e)),
-    }
+// What stands after the program's own name.
+fn arguments(rt: &(impl Env + AllocGlobal)) -> io::Result<Vec<String>> {
+    Ok(env::args(rt)?.skip(1).collect(rt.alloc())?)
 }
 
 fn main(rt: HostRuntime) -> ExitCode {
-    match started(&rt) {
-        Ok(()) => ExitCode::SUCCESS,
-        Err(Failed) => ExitCode::FAILURE,
+    let args = arguments(&rt);
+    let done = match &args {
+        Ok(args) => run(&rt, args),
+        Err(e) => Err(Failure::Io("command line", *e)),
+    };
+    match done {
+        Ok(status) => status,
+        Err(failure) => {
+            let _ = rt.eprintln(failure);
+            ExitCode::FAILURE
+        }
     }
 }

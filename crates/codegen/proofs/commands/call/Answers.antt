@@ -1,12 +1,8 @@
-use Rattle.std.proofs.Common.{rules}
-use Rattle.codegen.proofs.CommandParts.{call_done}
+use Rattle.std.proofs.Common.{refl}
+use Rattle.codegen.proofs.CommandParts.{on_call}
 use Rattle.codegen.proofs.commands.call.Goals as goal
 
-pub returns : goal.returns
-returns c = record {
-  emits = call_done c.args.starts.now c.args.text.now c.args.from c.arguments-a.result.to c.variables.result c.args.temp c.args.g c.arguments-a.result.count
-      c.slots-pos.result c.jump_to-pos.result
-      c.args.code.now c.arguments-a.new.code c.slots-pos.new.code c.jump_to-pos.new.code c.variables.new.code
-      c.arguments-a.ensures.emits c.slots-pos.ensures c.jump_to-pos.ensures c.variables.ensures.emits;
-  moves = search rules;
-}
+pub returns-clause-emits : goal.returns-clause-emits
+returns-clause-emits c k all is =
+    on_call c.args.starts.now all _ _ is _ _ c.args.g c.arguments-count.result _ _ _ c.arguments-count.new.code c.slots.new.code c.jump_to.new.code c.variables.new.code refl
+    c.arguments-count.ensures.emits c.slots.ensures.came c.jump_to.ensures.came c.variables.ensures.emits

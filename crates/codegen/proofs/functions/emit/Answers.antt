@@ -1,23 +1,23 @@
-use Rattle.format.proofs.Heads.{not_p}
-use Rattle.std.proofs.lemmas.List.{take_rest}
-use Rattle.codegen.proofs.FunctionParts.{none_yet, all_emitted, one_more, none_stands}
+use Rattle.std.proofs.Common.{◌≡◌, ℕ, rules, ◌∙◌}
+use Rattle.format.specs.declared.token.Token.TheVariants.{Function}
+use Rattle.codegen.proofs.FunctionParts.{one_more, all_emitted, none_cut, none_stands}
 use Rattle.codegen.proofs.functions.emit.Goals as goal
+use Rattle.codegen.proofs.functions.emit.Goals.{in_default, in_default-2}
 
-pub loop-n-init : goal.loop-n-init
-loop-n-init c = none_yet c.args.starts.now c.args.text.now c.args.code.now
+pub loop-arguments-preserved : goal.loop-arguments-preserved
+loop-arguments-preserved c = (
+  one_more c.args.starts.now c.args.text.now c.loop-arguments.tokens _ c.loop-arguments.code c.loop-arguments.invariant.0 c.in-Some-Function.arguments c.in-Some-Function.variables
+      c.in-Some-Function.field-0 c.of.result _ _ c.function.new.code c.in-Some-Function.ensures.steps c.in-Some-Function.field-0-is c.of.ensures.value.0 c.of.ensures.value.1 c.function.ensures.emits,
+  c.function.ensures.moves.1 ∙ c.loop-arguments.invariant.1,
+)
 
-pub returns-in_default : goal.returns-in_default
-returns-in_default c =
-    all_emitted c.args.starts.now c.args.text.now c.loop-n.at c.loop-n.pos c.args.code.now c.loop-n.code c.loop-n.invariant
-    (λ p q. absurd (not_p c.args.text.now c.loop-n.at c.in_default.ensures p _ q))
-
-pub returns-in_default-token : goal.returns-in_default-token
-returns-in_default-token c =
-    all_emitted c.args.starts.now c.args.text.now c.loop-n.at c.loop-n.pos c.args.code.now c.loop-n.code c.loop-n.invariant
-    (λ p q. none_stands c.args.text.now c.loop-n.at c.in-Some.n p c.in-Some.ensures c.in_default-token.not-Function q)
-
-pub loop-n-preserved : goal.loop-n-preserved
-loop-n-preserved c =
-    one_more c.args.starts.now c.args.text.now c.loop-n.at c.loop-n.pos c.args.code.now c.loop-n.code c.loop-n.invariant
-    c.in-Function.a c.in-Function.v c.in-Some.n c.frame_of.result c.function-c.result _ c.function-c.new.code
-    c.in-Some.ensures c.in-Function.is (take_rest c.args.text.now c.in-Some.n.end) c.frame_of.ensures.value.0 c.frame_of.ensures.value.1 c.function-c.ensures.emits
+pub returns : goal.returns
+returns c =
+    all_emitted c.args.starts.now c.args.text.now c.loop-arguments.tokens _ c.loop-arguments.code c.loop-arguments.invariant.0 c.len.result c.args.words.now _ c.new-code.ensures.len
+    c.new-code.ensures.words c.len.ensures (search rules)
+    (elim c.match-next.branch [
+      | in_default w ↦
+          let other : (a v : ℕ) → w.in_default.field-0 ≡ Function a v → ⊥ = search rules in
+          none_stands c.loop-arguments.tokens _ w.in_default.field-0 (rw w.in_default.is at c.next.ensures.steps) other
+      | in_default-2 w ↦ none_cut c.loop-arguments.tokens (rw w.in_default.is at c.next.ensures.steps).0
+    ])

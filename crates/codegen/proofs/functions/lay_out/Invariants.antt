@@ -1,9 +1,7 @@
-use Rattle.std.proofs.Common.{◌-◌, ◌*◌, ◌≤◌}
+use Rattle.std.proofs.Common.{◌*◌, ◌≤◌}
+use Rattle.codegen.specs.Coding.{Same}
 use Rattle.codegen.proofs.FunctionParts.{Laid}
 use Rattle.codegen.proofs.functions.lay_out.Given as goal
 
-abbrev pub invariant-loop-i : goal.invariant-loop-i
-invariant-loop-i l = (l.i ≤ 256) × (l.stack ≤ 1200 * l.i) × Laid l.text l.starts l.at l.words l.stack l.i
-
-abbrev pub decreases-loop-i : goal.decreases-loop-i
-decreases-loop-i l = 256 - l.i
+abbrev pub invariant-loop-start : goal.invariant-loop-start
+invariant-loop-start l = (l.stack ≤ 1200 * l.start-index) × Laid l.text l.tokens l.starts l.code.len l.stack l.start-index × Same l.initial.code l.code
