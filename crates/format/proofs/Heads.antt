@@ -1,5 +1,5 @@
 -- The token at the front of a tree's bytes, and what the tree must have been.
-use Rattle.std.proofs.Common.{◌≡◌, ℕ, List, [], ◌∷◌, Some, None, Option, sym, refl, ap, ◌∙◌, subst}
+use Rattle.std.proofs.Common.{◌≡◌, ℕ, ◌<◌, ◌≤◌, List, [], ◌∷◌, Some, None, Option, sym, refl, ap, ◌∙◌, subst, arith}
 use Rattle.model.specs.Source.{Op, add, sub, mul, mul_high, div, rem, and, or, xor, shift_right, shift_left, shift_signed, less_s, less, equal, Expr, word, var, load, op, if_not_zero, Cmd, set, store, if_then, while, call, from_door, to_door, Cmds, none, more, Function, Program}
 use Rattle.words.specs.Operators.{op_of}
 use Rattle.format.specs.Format.{tag_of, bytes_n, bytes_e, bytes_es, bytes_v, bytes_c, bytes_cs, bytes_p}
@@ -117,6 +117,38 @@ head_v (x ∷ xs) r bs t q =
     let w : (Var (cap x) ≡ t) × (bytes_v xs r ≡ bs) = same_token (lex (bytes_v (x ∷ xs) r)) (Var (cap x)) t (bytes_v xs r) bs (lex_var x (bytes_v xs r)) q in
     subst (λ (u : Token). HeadsV u bs (x ∷ xs) r) w.0 (x, xs, refl, refl, sym w.1)
 
+-- expressions in a row: the end, or one more
+abbrev pub HeadsEs : Token → List ℕ → List Expr → List ℕ → Type 0
+HeadsEs End bs es r = (es ≡ []) × (bs ≡ r)
+HeadsEs (Word v) bs es r = (e : Expr) × (fs : List Expr) × (es ≡ e ∷ fs)
+HeadsEs (Var v) bs es r = (e : Expr) × (fs : List Expr) × (es ≡ e ∷ fs)
+HeadsEs (Load v) bs es r = (e : Expr) × (fs : List Expr) × (es ≡ e ∷ fs)
+HeadsEs Choice bs es r = (e : Expr) × (fs : List Expr) × (es ≡ e ∷ fs)
+HeadsEs (Binary o) bs es r = (e : Expr) × (fs : List Expr) × (es ≡ e ∷ fs)
+HeadsEs (Set v) bs es r = ⊥
+HeadsEs (Store v) bs es r = ⊥
+HeadsEs If bs es r = ⊥
+HeadsEs While bs es r = ⊥
+HeadsEs (Call v) bs es r = ⊥
+HeadsEs (From v w) bs es r = ⊥
+HeadsEs (To v) bs es r = ⊥
+HeadsEs (Header v w) bs es r = ⊥
+
+own_es : (e : Expr) (fs : List Expr) (bs r : List ℕ) → HeadsEs (first_e e) bs (e ∷ fs) r
+own_es (word n) fs bs r = (word n, fs, refl)
+own_es (var n) fs bs r = (var n, fs, refl)
+own_es (load n e) fs bs r = (load n e, fs, refl)
+own_es (op o d e) fs bs r = (op o d e, fs, refl)
+own_es (if_not_zero c d e) fs bs r = (if_not_zero c d e, fs, refl)
+
+pub head_es : (es : List Expr) (r bs : List ℕ) (t : Token) → lex (bytes_es es r) ≡ Some (t, bs) → HeadsEs t bs es r
+head_es [] r bs t q =
+    let w : (End ≡ t) × (r ≡ bs) = same_token (lex (0 ∷ r)) End t r bs (lex_end_byte r) q in
+    subst (λ (u : Token). HeadsEs u bs [] r) w.0 (refl, sym w.1)
+head_es (e ∷ es) r bs t q =
+    let w : (first_e e ≡ t) × (rest_e e (bytes_es es r) ≡ bs) = same_token (lex (bytes_e e (bytes_es es r))) (first_e e) t (rest_e e (bytes_es es r)) bs (lex_e e (bytes_es es r)) q in
+    subst (λ (u : Token). HeadsEs u bs (e ∷ es) r) w.0 (own_es e es bs r)
+
 -- commands
 abbrev pub first_c : Cmd → Token
 first_c (set x e) = Set (cap x)
@@ -216,3 +248,7 @@ module _ (now : List ℕ) (s : lex now ≡ None) where
   not_p (f ∷ fs) r q =
       let xs : List ℕ = bytes_v f.results (bytes_cs f.body (bytes_p fs r)) in
       never (lex now) (Header (cap f.arguments) (cap f.variables), xs) s (ap lex q ∙ lex_f f xs)
+
+-- a number that was not capped is itself
+pub uncapped : (v n k : ℕ) → v ≡ cap n → v < k → k ≤ 18446744073709551615 → v ≡ n
+uncapped v n k e h l = omega arith

@@ -9,8 +9,8 @@ loop-i-init c = (omega arith, omega arith, at_first c.args.text.now)
 
 pub returns-in_err-ok_or : goal.returns-in_err-ok_or
 returns-in_err-ok_or c =
-    stopped c.args.text.now c.loop-i.i c.loop-i.expected c.take.result c.take.new.self _ c.from_residual.result c.loop-i-test.true c.take.ensures c.in_err-ok_or.ensures.ok_part c.in_err-ok_or.ensures.value
-    c.from_residual.ensures.1 c.loop-i.invariant.2
+    stopped c.args.text.now c.loop-i.i _ c.loop-i.expected c.take.result c.take.new.self _ c.from_residual.result c.loop-i-test.true c.take.ensures c.in_err-ok_or.ensures.ok_part (omega arith)
+    c.in_err-ok_or.ensures.value c.from_residual.ensures.1 c.loop-i.invariant.2
 
 pub loop-i-preserved : goal.loop-i-preserved
 loop-i-preserved c =
