@@ -110,6 +110,13 @@ impl<'a> Events<'a> {
             tokens: Tokens::new(text),
         }
     }
+
+    /// The bytes that are left: where the last function or call ended, those after it.
+    pub fn rest(&self) -> &'a [u8]
+        ensures { result.now ≡ self.now }
+    {
+        self.tokens.rest()
+    }
 }
 
 impl Iterator for Events<'_> {
