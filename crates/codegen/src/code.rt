@@ -65,6 +65,15 @@ impl<'a> Code<'a> {
         Code { words, len: 0 }
     }
 
+    /// Code to which `len` words have come already, so that the next stands at that place, or is counted only.
+    pub fn at(words: &'a mut [u32], len: usize) -> Code<'a>
+        ensures same { result.words.ghost_name ≡ words.entry.ghost_name }
+        ensures words { result.words.now ≡ words.old }
+        ensures len { result.len ≡ len }
+    {
+        Code { words, len }
+    }
+
     /// How many words have come to it.
     pub fn len(&self) -> usize
         ensures { result ≡ self.now.len }
