@@ -4,10 +4,12 @@
 #![tactic(auto)]
 
 mod code;
+mod hexadecimal;
 
 use code::{UNUSED, listing, untouched};
 use compiler::answer::Answer;
 use compiler::compile;
+use hexadecimal::bytes;
 use refusals::refusal::Numbered;
 use std::io;
 use std::io::{BufRead, BufReader};
@@ -77,7 +79,7 @@ fn main(rt: HostRuntime) -> io::Result<()> {
             rt.println(line.as_str())?;
             continue;
         }
-        let text = hex::decode(rt.alloc(), line).map_err(|_| io::ErrorKind::InvalidData)?;
+        let text = bytes(rt.alloc(), line.as_bytes())?;
         show(&rt, &text)?;
     }
     Ok(())
