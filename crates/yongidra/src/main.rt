@@ -64,6 +64,8 @@ fn deliver<'a>(
     Ok(status(println!(rt; "{stack:08x}")))
 }
 
+// Not inlined: the tables of the checks are on its stack, and what compiles nothing needs no room for them.
+#[inline(never)]
 fn compile_file<'a>(
     rt: &(impl Print + Files + AllocGlobal),
     program: &'a str,
