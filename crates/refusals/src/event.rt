@@ -111,7 +111,7 @@ impl<'a> Events<'a> {
         }
     }
 
-    /// The bytes that are left: where the last function or call ended, those after it.
+    /// The bytes that are left; after an event, those from where it ended on.
     pub fn rest(&self) -> &'a [u8]
         ensures { result.now ≡ self.now }
     {
